@@ -1,0 +1,5 @@
+pub mod Laws
+pub mod Algebra
+pub mod Blocks
+pub mod Sizes
+pub mod Lowest
