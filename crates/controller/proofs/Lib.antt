@@ -1,0 +1,4 @@
+pub mod Order
+pub mod Picked
+pub mod Keeps
+pub mod Served
