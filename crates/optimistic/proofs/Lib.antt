@@ -1,0 +1,3 @@
+pub mod Raising
+pub mod Logged
+pub mod Aside

@@ -1,0 +1,4 @@
+pub mod Lows
+pub mod Blocked
+pub mod Table
+pub mod Names
