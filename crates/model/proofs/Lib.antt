@@ -1,0 +1,17 @@
+pub mod Lists
+pub mod Kernels
+pub mod Views
+pub mod Stages
+pub mod Leaves
+pub mod Steps
+pub mod Turns
+pub mod Runs
+pub mod Determined
+pub mod Pump
+pub mod Computed
+pub mod Alone
+pub mod Orders
+pub mod Softly
+pub mod Leveled
+pub mod Examples
+pub mod Always
