@@ -1,0 +1,5 @@
+pub mod Lows
+pub mod Staged
+pub mod Layered
+pub mod Occupying
+pub mod Arriving
