@@ -1,0 +1,5 @@
+mod Cutting
+mod OneWay
+mod Reading
+mod Setups
+mod Written
