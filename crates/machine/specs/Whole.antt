@@ -25,8 +25,8 @@ abbrev pub consistent-of : {P H A B L : Type 0} → controller.Ghosts H L → st
 consistent-of h a b m = h .consistent (m .hardware) × a .consistent (m .head) × b .consistent (m .root)
 
 -- and, of one laid out, no route lets a kernel handle a line that its stage lacks
-abbrev pub laid-out : {P H A B L : Type 0} → controller.Ghosts H L → stage.Ghosts A → stage.Ghosts B → Machine P H A B → Type 0
-laid-out h a b m =
+abbrev pub consistent-laid-out : {P H A B L : Type 0} → controller.Ghosts H L → stage.Ghosts A → stage.Ghosts B → Machine P H A B → Type 0
+consistent-laid-out h a b m =
     consistent-of h a b m
     × Within (m .routes .«head_handles» .bits) (a .model (m .head) .own .lines)
     × Within (m .routes .«root_handles» .bits) (b .model (m .root) .own .lines)

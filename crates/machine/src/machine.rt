@@ -7,7 +7,7 @@ ghost use Rattle.machine.specs.declared.fault.Fault.the-variants.{NotAtStage};
 ghost use Rattle.model.specs.Run.{Made, Fresh, Routable};
 ghost use Rattle.routes.specs.Sets.{default-routes};
 ghost use Rattle.machine.specs.Routing.{Can-handle, Routed, Leaves-routes};
-ghost use Rattle.machine.specs.Whole.{machine, model-of, consistent-of, laid-out, Made-stage};
+ghost use Rattle.machine.specs.Whole.{machine, model-of, consistent-of, consistent-laid-out, Made-stage};
 use crate::AtHead;
 use crate::AtRoot;
 use crate::Closed;
@@ -48,7 +48,7 @@ impl<H: Controller, A: Stage, B: Stage> Machine<LaidOut, H, A, B> {
         requires { ⌜ H·Controller .consistent hardware ⌝ }
         requires { ⌜ A·Stage .consistent head ⌝ }
         requires { ⌜ B·Stage .consistent root ⌝ }
-        ensures keeps { λ r. ⌜ laid-out H·Controller A·Stage B·Stage r ⌝ }
+        ensures keeps { λ r. ⌜ consistent-laid-out H·Controller A·Stage B·Stage r ⌝ }
         ensures model { λ r. ⌜ model-of H·Controller A·Stage B·Stage r ≡ machine (H·Controller .view hardware) (A·Stage .model head) (B·Stage .model root) (default-routes (H·Controller .view hardware .lines) (B·Stage .model root .own .lines)) ⌝ }
         ensures fresh { λ r. ⌜ (Made (H·Controller .view hardware) → Made-stage (A·Stage .model head) → Made-stage (B·Stage .model root) → Fresh (model-of H·Controller A·Stage B·Stage r)) ⌝ }
     {
@@ -69,8 +69,8 @@ impl<H: Controller, A: Stage, B: Stage> Machine<LaidOut, H, A, B> {
 
     // Sets the route of a line; the last one set counts.
     pub fn route(&mut self, line: u8, route: Route) -> Result<(), MachineFault>
-        requires { ⌜ laid-out H·Controller A·Stage B·Stage (now self) ⌝ }
-        ensures keeps { λ r. ⌜ laid-out H·Controller A·Stage B·Stage (now (self .exit)) ⌝ }
+        requires { ⌜ consistent-laid-out H·Controller A·Stage B·Stage (now self) ⌝ }
+        ensures keeps { λ r. ⌜ consistent-laid-out H·Controller A·Stage B·Stage (now (self .exit)) ⌝ }
         ensures answers { λ r. ⌜ Routed (H·Controller .view (now (self .entry) .hardware) .lines) (A·Stage .model (now (self .entry) .head) .own .lines) (B·Stage .model (now (self .entry) .root) .own .lines) line route r ⌝ }
         ensures routes { λ r. ⌜ Leaves-routes (now (self .entry) .routes) line route r (now (self .exit) .routes) ⌝ }
         ensures others { λ r. ⌜ (now (self .exit) .hardware ≡ now (self .entry) .hardware) × (now (self .exit) .head ≡ now (self .entry) .head) × (now (self .exit) .root ≡ now (self .entry) .root) ⌝ }
@@ -108,7 +108,7 @@ impl<H: Controller, A: Stage, B: Stage> Machine<LaidOut, H, A, B> {
 
     // The machine runs from now on.
     pub fn start(self) -> Machine<Running, H, A, B>
-        requires { ⌜ laid-out H·Controller A·Stage B·Stage self ⌝ }
+        requires { ⌜ consistent-laid-out H·Controller A·Stage B·Stage self ⌝ }
         ensures keeps { λ r. ⌜ consistent-of H·Controller A·Stage B·Stage r ⌝ }
         ensures same { λ r. ⌜ model-of H·Controller A·Stage B·Stage r ≡ model-of H·Controller A·Stage B·Stage self ⌝ }
         ensures routable { λ r. ⌜ Routable (model-of H·Controller A·Stage B·Stage r) ⌝ }

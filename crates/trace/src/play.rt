@@ -2,7 +2,7 @@
 ghost use mathlib.Core.Path.{_≡_};
 ghost use Prim.Native.Nat.{ℕ};
 ghost use denote.Ref.{name};
-ghost use Rattle.machine.specs.Whole.{model-of, consistent-of, laid-out};
+ghost use Rattle.machine.specs.Whole.{model-of, consistent-of, consistent-laid-out};
 ghost use Rattle.trace.specs.Lines.{levels-in, traced, SetsUp, PlaysSetup, PlaysCommand, Plays};
 ghost use Rattle.trace.specs.Sessions.{has-started, session-model, session-consistent};
 ghost use Rattle.trace.specs.Stages.{head-stage, root-stage};
@@ -46,7 +46,7 @@ fn set_up<H: Controller, A: Stage, B: Stage>(
     machine: Machine<LaidOut, H, A, B>,
     setup: Setup,
 ) -> Played<H, A, B>
-    requires { ⌜ laid-out H·Controller A·Stage B·Stage machine ⌝ }
+    requires { ⌜ consistent-laid-out H·Controller A·Stage B·Stage machine ⌝ }
     ensures keeps { λ r. ⌜ session-consistent H·Controller A·Stage B·Stage (r .session) ⌝ }
     ensures sets { λ r. ⌜ SetsUp (model-of H·Controller A·Stage B·Stage machine) setup (r .result) (has-started (r .session)) (session-model H·Controller A·Stage B·Stage (r .session)) ⌝ }
 {
@@ -81,7 +81,7 @@ fn before_start<H: Controller, A: Stage, B: Stage>(
     machine: Machine<LaidOut, H, A, B>,
     line: &[u8],
 ) -> Played<H, A, B>
-    requires { ⌜ laid-out H·Controller A·Stage B·Stage machine ⌝ }
+    requires { ⌜ consistent-laid-out H·Controller A·Stage B·Stage machine ⌝ }
     ensures keeps { λ r. ⌜ session-consistent H·Controller A·Stage B·Stage (r .session) ⌝ }
     ensures plays { λ r. ⌜ PlaysSetup (model-of H·Controller A·Stage B·Stage machine) (now (line .entry)) (r .result) (has-started (r .session)) (session-model H·Controller A·Stage B·Stage (r .session)) ⌝ }
 {

@@ -1,7 +1,7 @@
 // The commands before the start.
 ghost use mathlib.Core.Path.{_≡_};
 ghost use Prim.Native.Nat.{ℕ};
-ghost use Rattle.machine.specs.Whole.{model-of, laid-out};
+ghost use Rattle.machine.specs.Whole.{model-of, consistent-laid-out};
 ghost use Rattle.trace.specs.Lines.{Reroutes};
 use crate::TraceFault;
 use crate::fault::TraceFaultFromMachine;
@@ -18,8 +18,8 @@ pub(crate) fn reroute<H: Controller, A: Stage, B: Stage>(
     line: u8,
     route: Route,
 ) -> Result<Listed, TraceFault>
-    requires { ⌜ laid-out H·Controller A·Stage B·Stage (now machine) ⌝ }
-    ensures keeps { λ r. ⌜ laid-out H·Controller A·Stage B·Stage (now (machine .exit)) ⌝ }
+    requires { ⌜ consistent-laid-out H·Controller A·Stage B·Stage (now machine) ⌝ }
+    ensures keeps { λ r. ⌜ consistent-laid-out H·Controller A·Stage B·Stage (now (machine .exit)) ⌝ }
     ensures routes { λ r. ⌜ Reroutes (model-of H·Controller A·Stage B·Stage (now (machine .entry))) line route r (model-of H·Controller A·Stage B·Stage (now (machine .exit))) ⌝ }
 {
     machine.route(line, route)?;
