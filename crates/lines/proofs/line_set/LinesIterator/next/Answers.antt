@@ -9,4 +9,4 @@ fewer s t None h = tt
 fewer s t (Some n) h = (tt, tt, rw h.1 (omega (arith, size_out n s h.0.one)))
 
 pub returns : goal.returns
-returns c = record { steps = c.pop-lowest.ensures; goes = firm (fewer _ _ c.pop-lowest.result c.pop-lowest.ensures) (λ h. search rules) }
+returns c = record { steps = c.pop_lowest.ensures; goes = firm (fewer _ _ c.pop_lowest.result c.pop_lowest.ensures) (λ h. search rules) }
