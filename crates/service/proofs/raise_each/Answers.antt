@@ -14,8 +14,8 @@ loop-line-preserved g c =
     let w = g.C.Controller.view c.raise.new.self in (
       c.raise.ensures.keeps,
       c.raise.ensures.fixed ∙ i.1,
-      rw c.push-reserved.ensures.capacity i.2,
-      rw c.push-reserved.ensures.items (raising_more v₀ v c.args.requests.now c.loop-line.line-index _ i.3 (omega arith) c.raise.result w c.raise.ensures.leaves),
+      rw c.push_reserved.ensures.capacity i.2,
+      rw c.push_reserved.ensures.items (raising_more v₀ v c.args.requests.now c.loop-line.line-index _ i.3 (omega arith) c.raise.result w c.raise.ensures.leaves),
     )
 
 pub returns : goal.returns

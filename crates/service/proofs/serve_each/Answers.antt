@@ -47,5 +47,5 @@ returns g c =
     let v₀ = g.C.Controller.view c.args.controller.now in
     let v = g.C.Controller.view c.loop-line.controller in
     let ns = vec_items c.loop-line.served in
-    let h = c.in-default.ensures in
+    let h = c.in_default.ensures in
     record { keeps = h.keeps; fixed = h.fixed ∙ i.1; leaves = subst (Serves v₀ ns) (sym h.leaves.1) (progress_all v₀ v ns i.3 h.leaves.0) }

@@ -12,9 +12,9 @@ loop-line-init g c = (λ n h. h, picks_none (ahead_by g.R.Ranking.order) _)
 pub loop-line-preserved : goal.loop-line-preserved
 loop-line-preserved g c =
     let m = g.met.R.Level.Level in
-    let o = order_by _ (weak_of g.row.R-Level-Level.above m.asymmetric m.connected m.transitive g.R.Ranking.ranks g.R.Ranking.order g.met.R.Ranking.ordered) in
+    let o = order_by _ (weak_of g.R.Level.Level.above m.asymmetric m.connected m.transitive g.R.Ranking.ranks g.R.Ranking.order g.met.R.Ranking.ordered) in
     let i = c.loop-line.invariant in
-    let s = c.into-iter-line-iterator.result.rest.bits in
+    let s = c.into_iter-line-iterator.result.rest.bits in
     let r = c.loop-line.line-iterator.rest.bits in
     let p = c.in-Some.ensures.steps in
     rw (p.1, c.better.ensures) (
@@ -25,6 +25,6 @@ loop-line-preserved g c =
 pub returns : goal.returns
 returns g c =
     let goes = ahead_by g.R.Ranking.order in
-    let e = ap (λ z. z.rest.bits) c.into-iter-line-iterator.ensures.into-iter-gives ∙ c.lines-line-items.ensures in
+    let e = ap (λ z. z.rest.bits) c.into_iter-line-iterator.ensures.into_iter_gives ∙ c.lines-line-items.ensures in
     subst (λ s. Picks goes (λ n. has s n ≡ true) c.loop-line.best) e
     (picks_all goes _ _ c.in-None.ensures.steps.0 c.loop-line.best c.loop-line.invariant.1)

@@ -3,11 +3,11 @@ use Rattle.listing.specs.Numbers.{written}
 use Rattle.listing.proofs.Puts.{room_for, puts_arrived}
 use Rattle.listing.proofs.write.put_arrived.Goals as goal
 
-pub put-decimal-blank-requires : goal.put-decimal-blank-requires
-put-decimal-blank-requires c = omega (arith, room_for c.args.count c.ranges.count.fits)
+pub put_decimal-blank-requires : goal.put_decimal-blank-requires
+put_decimal-blank-requires c = omega (arith, room_for c.args.count c.ranges.count.fits)
 
-pub put-hexadecimal-requires : goal.put-hexadecimal-requires
-put-hexadecimal-requires c = omega (arith, room_for c.args.count c.ranges.count.fits)
+pub put_hexadecimal-requires : goal.put_hexadecimal-requires
+put_hexadecimal-requires c = omega (arith, room_for c.args.count c.ranges.count.fits)
 
 pub returns : goal.returns
 returns c =
@@ -19,5 +19,5 @@ returns c =
       end = omega (arith, k);
       within = omega (arith, h);
       wrote = puts_arrived c.args.out.now _ _ _ _ _ n s (omega (arith, h))
-          c.put-decimal-blank.ensures.wrote c.put-decimal-blank.ensures.end c.put-byte-mid.ensures.wrote c.put-byte-mid.ensures.end c.put-hexadecimal.ensures.wrote;
+          c.put_decimal-blank.ensures.wrote c.put_decimal-blank.ensures.end c.put_byte-mid.ensures.wrote c.put_byte-mid.ensures.end c.put_hexadecimal.ensures.wrote;
     }

@@ -10,6 +10,6 @@ returns c =
       end = omega arith;
       within = omega arith;
       wrote =
-          puts_line c.args.out.now _ _ (text c.args.listed) _ (omega arith) c.put-listed-end.ensures.wrote c.put-listed-end.ensures.end c.put-byte.ensures.wrote
+          puts_line c.args.out.now _ _ (text c.args.listed) _ (omega arith) c.put_listed-end.ensures.wrote c.put_listed-end.ensures.end c.put_byte.ensures.wrote
           ∙ ap (λ n. line c.args.listed ++ drop n c.args.out.now) (omega arith);
     }

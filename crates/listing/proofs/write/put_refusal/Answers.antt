@@ -12,6 +12,6 @@ returns c =
       end = omega arith;
       within = omega arith;
       wrote = puts_refused c.args.out.now _ _ _ _ _ _ _ n (place_letter c.args.place) (omega arith)
-          c.put-text-at.ensures.wrote c.put-text-at.ensures.end c.put-decimal-blank.ensures.wrote c.put-decimal-blank.ensures.end c.put-byte-mid.ensures.wrote c.put-byte-mid.ensures.end
-          (c.put-byte.ensures.wrote ∙ ap (λ p. put_at c.put-byte-mid.new.out c.put-byte-mid.result (p ∷ [])) c.place_letter.ensures);
+          c.put_text-at.ensures.wrote c.put_text-at.ensures.end c.put_decimal-blank.ensures.wrote c.put_decimal-blank.ensures.end c.put_byte-mid.ensures.wrote c.put_byte-mid.ensures.end
+          (c.put_byte.ensures.wrote ∙ ap (λ p. put_at c.put_byte-mid.new.out c.put_byte-mid.result (p ∷ [])) c.place_letter.ensures);
     }

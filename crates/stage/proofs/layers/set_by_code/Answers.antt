@@ -9,10 +9,10 @@ returns g c =
     let s = c.args.layers.now in
     let t = s.below in
     let u = c.set_level.new.self in
-    let e = c.in-ok-set-level.ensures in
+    let e = c.in_ok-set_level.ensures in
     let code = c.args.code in
     let named : g.P.Policy.named t.policy code ≡ Some c.in-Some.level
-    = sym (ap (λ z. g.P.Policy.named z code) c.policy.ensures) ∙ sym c.level-from.ensures ∙ c.in-Some.is in
+    = sym (ap (λ z. g.P.Policy.named z code) c.policy.ensures) ∙ sym c.level_from.ensures ∙ c.in-Some.is in
     record {
       keeps = e.keeps;
       sets = (

@@ -5,7 +5,7 @@ use Rattle.trace.proofs.setup.reroute.Goals as goal
 
 pub returns : goal.returns
 returns g c =
-    let e = c.in-ok-route.ensures in
+    let e = c.in_ok-route.ensures in
     let h = g.H.Controller in
     let a = g.A.Stage in
     let b = g.B.Stage in

@@ -12,16 +12,16 @@ returns g c =
     let h = g.H.Controller in
     let a = head_stage g.C.Controller in
     let b = root_stage g.D.Controller in
-    let p = c.play-line-session.result in
+    let p = c.play_line-session.result in
     let x = levels_in c.args.head.now.places.now c.args.head.now.used in
     let y = levels_in c.args.root.now.places.now c.args.root.now.used in
-    let x' = levels_in c.play-line-session.new.head.places.now c.play-line-session.new.head.used in
-    let y' = levels_in c.play-line-session.new.root.places.now c.play-line-session.new.root.used in
+    let x' = levels_in c.play_line-session.new.head.places.now c.play_line-session.new.head.used in
+    let y' = levels_in c.play_line-session.new.root.places.now c.play_line-session.new.root.used in
     record {
-      keeps = c.play-line-session.ensures.keeps;
-      lent = c.play-line-session.ensures.lent;
+      keeps = c.play_line-session.ensures.keeps;
+      lent = c.play_line-session.ensures.lent;
       steps =
           steps (has_started c.args.session) (has_started p.session) (traced (session_model h a b c.args.session) x y) (traced (session_model h a b p.session) x' y')
-          c.args.line.now c.args.out.now c.write-line-written.new.out p.result c.write-line-written.result (ltb-false (length c.args.out.now) 20 (sym c.if-is-short.ensures)) c.play-line-session.ensures.plays
-          (subst (λ l. Writes l c.args.out.now c.write-line-written.result c.write-line-written.new.out) c.listed.ensures c.write-line-written.ensures);
+          c.args.line.now c.args.out.now c.write_line-written.new.out p.result c.write_line-written.result (ltb-false (length c.args.out.now) 20 (sym c.if-is_short.ensures)) c.play_line-session.ensures.plays
+          (subst (λ l. Writes l c.args.out.now c.write_line-written.result c.write_line-written.new.out) c.listed.ensures c.write_line-written.ensures);
     }

@@ -9,19 +9,19 @@ use Rattle.trace_calls.proofs.saved.restore_level.Goals as goal
 pub returns : goal.returns
 returns g c =
     let m = model_of g.H.Controller g.A.Stage g.B.Stage c.args.machine.now in
-    let m' = model_of g.H.Controller g.A.Stage g.B.Stage c.set-again.new.machine in
+    let m' = model_of g.H.Controller g.A.Stage g.B.Stage c.set_again.new.machine in
     let t = c.in-Some.ensures in
-    let w = c.in-ok-now-at.ensures in
-    let e : c.in-ok-code.code ≡ c.in-ok-now-at.now-at = sym w.sets.0 in
+    let w = c.in_ok-now_at.ensures in
+    let e : c.in_ok-code.code ≡ c.in_ok-now_at.now_at = sym w.sets.0 in
     record {
       keeps = w.keeps;
-      lent = c.drop-last.ensures.lent;
+      lent = c.drop_last.ensures.lent;
       restores = (
         c.in-Some.level,
         w.sets.1.0,
         t,
-        c.in-ok-code.ensures.0 ∙ ap Some e,
+        c.in_ok-code.ensures.0 ∙ ap Some e,
         subst (λ n. Step m (to c.args.kernel (set_level n)) (WasAtLevel w.sets.1.0) m') e w.sets.1.1,
-        c.drop-last.ensures.drops t.0,
+        c.drop_last.ensures.drops t.0,
       );
     }

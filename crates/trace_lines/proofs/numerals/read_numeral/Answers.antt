@@ -10,12 +10,12 @@ returns-then-d-base c =
     ∙ sym c.loop-b.invariant.1
     ∙ reads_none _ _ _ _ _ c.loop-b-test.true c.digit-d.ensures c.if-d-base.true)
 
-pub overflow-mul-n : goal.overflow-mul-n
-overflow-mul-n c =
+pub overflow_mul-n : goal.overflow_mul-n
+overflow_mul-n c =
     omega (arith, grows _ _ _ _ c.loop-b.invariant.0 c.requires.0 c.if-d-base.false, fits c.loop-b.b-index (omega arith))
 
-pub overflow-add-n : goal.overflow-add-n
-overflow-add-n c =
+pub overflow_add-n : goal.overflow_add-n
+overflow_add-n c =
     omega (arith, grows _ _ _ _ c.loop-b.invariant.0 c.requires.0 c.if-d-base.false, fits c.loop-b.b-index (omega arith))
 
 pub loop-b-preserved : goal.loop-b-preserved

@@ -18,5 +18,5 @@ returns g c =
     let e : c.raised.result ≡ cond (has was.pending line) Merged New =
     c.raised.ensures ∙ ap (λ b. cond b Merged New) (c.contains-before.ensures ∙ ap (λ s. has s line) c.pending.ensures) in
     let h : Raises (bank_view w o was) line (Ok c.raised.result) (bank_view w o is) =
-    subst (λ a. Raises (bank_view w o was) line (Ok a) (bank_view w o is)) (sym e) (raises w o was is line (sym c.if-not-has-line.ensures) c.latch.ensures) in
+    subst (λ a. Raises (bank_view w o was) line (Ok a) (bank_view w o is)) (sym e) (raises w o was is line (sym c.if-not-has_line.ensures) c.latch.ensures) in
     record { keeps = raises_sound _ c.requires line (Ok c.raised.result) _ h; fixed = refl; leaves = h }

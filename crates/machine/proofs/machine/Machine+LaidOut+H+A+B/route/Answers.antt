@@ -13,15 +13,15 @@ returns g c =
     let a = (g.A.Stage.model s.head).own.lines in
     let b = (g.B.Stage.model s.root).own.lines in
     let e = c.with-self.ensures in
-    let h = c.in-ok-head-can-handle.ensures in
-    let k = c.in-ok-root-can-handle.ensures in
+    let h = c.in_ok-head_can_handle.ensures in
+    let k = c.in_ok-root_can_handle.ensures in
     record {
       keeps = (
         c.requires.0,
         subst (λ z. Within z a) (sym e.head) (flag_within q.head_handles.bits n a x.head_handles c.requires.1 h),
         subst (λ z. Within z b) (sym e.root) (flag_within q.root_handles.bits n b x.root_handles c.requires.2 k),
       );
-      answers = (c.in-ok-level.ensures.0, h, k);
+      answers = (c.in_ok-level.ensures.0, h, k);
       routes = λ i. routes (e.head i) (e.passed i) (e.root i);
       others = (refl, refl, refl);
     }

@@ -10,8 +10,8 @@ use Rattle.machine.specs.Answering.{mask_answer, placed, at_root}
 use Rattle.machine.proofs.Changed.{root_says, root_refused}
 use Rattle.machine.proofs.machine.Machine.mask_at_root.Goals as goal
 
-pub returns-in-err-mask : goal.returns-in-err-mask
-returns-in-err-mask g c =
+pub returns-in_err-mask : goal.returns-in_err-mask
+returns-in_err-mask g c =
     let s = c.args.self.now in
     let v = g.H.Controller.view s.hardware in
     let a = g.A.Stage.model s.head in
@@ -20,7 +20,7 @@ returns-in-err-mask g c =
     let n = g.B.Stage.model c.mask.new.self in
     record {
       keeps = (c.requires.0, c.requires.1, c.mask.ensures.keeps);
-      steps = root_says (mask_says (kernel root)) r (Err c.in-err-mask.field-0.0) (mask_answer (placed at_root c.from-residual.result)) (root_refused mask_answer c.from-residual.result (Controller c.in-err-mask.field-0.0) c.from-residual.ensures.1) (Through (λ z. Masks z c.args.set.bits)) v a b n c.in-err-mask.ensures.leaves;
+      steps = root_says (mask_says (kernel root)) r (Err c.in_err-mask.field-0.0) (mask_answer (placed at_root c.from_residual.result)) (root_refused mask_answer c.from_residual.result (Controller c.in_err-mask.field-0.0) c.from_residual.ensures.1) (Through (λ z. Masks z c.args.set.bits)) v a b n c.in_err-mask.ensures.leaves;
     }
 
 pub returns : goal.returns
@@ -33,5 +33,5 @@ returns g c =
     let n = g.B.Stage.model c.mask.new.self in
     record {
       keeps = (c.requires.0, c.requires.1, c.mask.ensures.keeps);
-      steps = root_says (mask_says (kernel root)) r (Ok c.in-ok-mask.field-0) (mask_answer (Ok c.in-ok-mask.field-0)) refl (Through (λ z. Masks z c.args.set.bits)) v a b n c.in-ok-mask.ensures.leaves;
+      steps = root_says (mask_says (kernel root)) r (Ok c.in_ok-mask.field-0) (mask_answer (Ok c.in_ok-mask.field-0)) refl (Through (λ z. Masks z c.args.set.bits)) v a b n c.in_ok-mask.ensures.leaves;
     }

@@ -4,11 +4,11 @@ use Rattle.machine.specs.Whole.{model_of}
 use Rattle.machine.proofs.Pumping.{so_far_none, so_far_more, so_far_all, so_far_full}
 use Rattle.machine.proofs.machine.Machine.pump_within.Goals as goal
 
-pub returns-then-is-over : goal.returns-then-is-over
-returns-then-is-over g c =
+pub returns-then-is_over : goal.returns-then-is_over
+returns-then-is_over g c =
     record {
       keeps = c.requires;
-      pumps = record { result = Err tt; does = (ltb-true c.args.limit c.args.n (sym c.if-is-over.ensures), refl); answers = refl };
+      pumps = record { result = Err tt; does = (ltb-true c.args.limit c.args.n (sym c.if-is_over.ensures), refl); answers = refl };
     }
 
 pub loop-self-init : goal.loop-self-init
@@ -31,7 +31,7 @@ returns-in-None g c =
     record {
       keeps = c.in-None.ensures.keeps;
       pumps = so_far_all (model_of g.H.Controller g.A.Stage g.B.Stage c.args.self.now) (model_of g.H.Controller g.A.Stage g.B.Stage c.loop-self.self) (model_of g.H.Controller g.A.Stage g.B.Stage c.arrive.new.self) c.args.limit c.args.n c.loop-self.arrived.count c.loop-self.arrived.set
-          (ltb-false c.args.limit c.args.n (sym c.if-is-over.ensures)) i.1 c.in-None.ensures.arrives;
+          (ltb-false c.args.limit c.args.n (sym c.if-is_over.ensures)) i.1 c.in-None.ensures.arrives;
     }
 
 pub returns : goal.returns
@@ -40,5 +40,5 @@ returns g c =
     record {
       keeps = i.0;
       pumps = so_far_full (model_of g.H.Controller g.A.Stage g.B.Stage c.args.self.now) (model_of g.H.Controller g.A.Stage g.B.Stage c.loop-self.self) c.args.limit c.args.n c.loop-self.arrived.count c.loop-self.arrived.set
-          (ltb-false c.args.limit c.args.n (sym c.if-is-over.ensures)) i.1 (ltb-false c.loop-self.arrived.count c.args.n (sym c.loop-self-test.ensures));
+          (ltb-false c.args.limit c.args.n (sym c.if-is_over.ensures)) i.1 (ltb-false c.loop-self.arrived.count c.args.n (sym c.loop-self-test.ensures));
     }

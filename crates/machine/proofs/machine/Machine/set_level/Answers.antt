@@ -7,41 +7,41 @@ use Rattle.machine.specs.Answering.{level_answer}
 use Rattle.machine.proofs.Changed.{carried}
 use Rattle.machine.proofs.machine.Machine.set_level.Goals as goal
 
-pub returns-in-err-former : goal.returns-in-err-former
-returns-in-err-former g c =
+pub returns-in_err-former : goal.returns-in_err-former
+returns-in_err-former g c =
     let m = model_of g.H.Controller g.A.Stage g.B.Stage c.args.self.now in
-    let n = model_of g.H.Controller g.A.Stage g.B.Stage c.set-level-at-head.new.self in
-    let e = c.in-err-former.ensures in
+    let n = model_of g.H.Controller g.A.Stage g.B.Stage c.set_level_at_head.new.self in
+    let e = c.in_err-former.ensures in
     record {
       keeps = e.keeps;
-      steps = subst₂ (λ k x. Step m (to_call k (level_call c.args.code)) x n) (sym c.in-Head.is) (sym (carried level_answer c.from-residual.result _ c.from-residual.ensures.1)) e.steps;
+      steps = subst₂ (λ k x. Step m (to_call k (level_call c.args.code)) x n) (sym c.in-Head.is) (sym (carried level_answer c.from_residual.result _ c.from_residual.ensures.1)) e.steps;
     }
 
-pub returns-in-ok-former : goal.returns-in-ok-former
-returns-in-ok-former g c =
+pub returns-in_ok-former : goal.returns-in_ok-former
+returns-in_ok-former g c =
     let m = model_of g.H.Controller g.A.Stage g.B.Stage c.args.self.now in
-    let n = model_of g.H.Controller g.A.Stage g.B.Stage c.set-level-at-head.new.self in
-    let e = c.in-ok-former.ensures in
+    let n = model_of g.H.Controller g.A.Stage g.B.Stage c.set_level_at_head.new.self in
+    let e = c.in_ok-former.ensures in
     record {
       keeps = e.keeps;
       steps = subst₂ (λ k x. Step m (to_call k (level_call c.args.code)) x n) (sym c.in-Head.is) refl e.steps;
     }
 
-pub returns-in-err-former-2 : goal.returns-in-err-former-2
-returns-in-err-former-2 g c =
+pub returns-in_err-former-2 : goal.returns-in_err-former-2
+returns-in_err-former-2 g c =
     let m = model_of g.H.Controller g.A.Stage g.B.Stage c.args.self.now in
-    let n = model_of g.H.Controller g.A.Stage g.B.Stage c.set-level-at-root.new.self in
-    let e = c.in-err-former-2.ensures in
+    let n = model_of g.H.Controller g.A.Stage g.B.Stage c.set_level_at_root.new.self in
+    let e = c.in_err-former-2.ensures in
     record {
       keeps = e.keeps;
-      steps = subst₂ (λ k x. Step m (to_call k (level_call c.args.code)) x n) (sym c.in-Root.is) (sym (carried level_answer c.from-residual-in-err-former-2.result _ c.from-residual-in-err-former-2.ensures.1)) e.steps;
+      steps = subst₂ (λ k x. Step m (to_call k (level_call c.args.code)) x n) (sym c.in-Root.is) (sym (carried level_answer c.from_residual-in_err-former-2.result _ c.from_residual-in_err-former-2.ensures.1)) e.steps;
     }
 
-pub returns-in-ok-former-2 : goal.returns-in-ok-former-2
-returns-in-ok-former-2 g c =
+pub returns-in_ok-former-2 : goal.returns-in_ok-former-2
+returns-in_ok-former-2 g c =
     let m = model_of g.H.Controller g.A.Stage g.B.Stage c.args.self.now in
-    let n = model_of g.H.Controller g.A.Stage g.B.Stage c.set-level-at-root.new.self in
-    let e = c.in-ok-former-2.ensures in
+    let n = model_of g.H.Controller g.A.Stage g.B.Stage c.set_level_at_root.new.self in
+    let e = c.in_ok-former-2.ensures in
     record {
       keeps = e.keeps;
       steps = subst₂ (λ k x. Step m (to_call k (level_call c.args.code)) x n) (sym c.in-Root.is) refl e.steps;

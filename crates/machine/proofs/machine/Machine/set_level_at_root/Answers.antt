@@ -8,8 +8,8 @@ use Rattle.machine.specs.Answering.{level_answer, placed, at_root}
 use Rattle.machine.proofs.Changed.{root_says, root_refused}
 use Rattle.machine.proofs.machine.Machine.set_level_at_root.Goals as goal
 
-pub returns-in-err-former : goal.returns-in-err-former
-returns-in-err-former g c =
+pub returns-in_err-former : goal.returns-in_err-former
+returns-in_err-former g c =
     let s = c.args.self.now in
     let v = g.H.Controller.view s.hardware in
     let a = g.A.Stage.model s.head in
@@ -18,7 +18,7 @@ returns-in-err-former g c =
     let n = g.B.Stage.model c.set_level.new.self in
     record {
       keeps = (c.requires.0, c.requires.1, c.set_level.ensures.keeps);
-      steps = root_says (level_says root) r (Err c.in-err-former.field-0.0) (level_answer (placed at_root c.from-residual.result)) (root_refused level_answer c.from-residual.result (Level c.in-err-former.field-0.0) c.from-residual.ensures.1) (SetsLevel c.args.code) v a b n c.in-err-former.ensures.leaves;
+      steps = root_says (level_says root) r (Err c.in_err-former.field-0.0) (level_answer (placed at_root c.from_residual.result)) (root_refused level_answer c.from_residual.result (Level c.in_err-former.field-0.0) c.from_residual.ensures.1) (SetsLevel c.args.code) v a b n c.in_err-former.ensures.leaves;
     }
 
 pub returns : goal.returns
@@ -31,5 +31,5 @@ returns g c =
     let n = g.B.Stage.model c.set_level.new.self in
     record {
       keeps = (c.requires.0, c.requires.1, c.set_level.ensures.keeps);
-      steps = root_says (level_says root) r (Ok c.in-ok-former.former) (level_answer (Ok c.in-ok-former.former)) refl (SetsLevel c.args.code) v a b n c.in-ok-former.ensures.leaves;
+      steps = root_says (level_says root) r (Ok c.in_ok-former.former) (level_answer (Ok c.in_ok-former.former)) refl (SetsLevel c.args.code) v a b n c.in_ok-former.ensures.leaves;
     }

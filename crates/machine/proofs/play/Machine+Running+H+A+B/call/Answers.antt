@@ -6,6 +6,6 @@ use Rattle.machine.proofs.play.Machine+Running+H+A+B.call.Goals as goal
 pub returns-in-Next : goal.returns-in-Next
 returns-in-Next g c =
     record {
-      keeps = c.call-next.ensures.keeps;
-      steps = subst (λ x. Step (model_of g.H.Controller g.A.Stage g.B.Stage c.args.self.now) x c.call-next.result (model_of g.H.Controller g.A.Stage g.B.Stage c.call-next.new.self)) (sym c.in-Next.is) c.call-next.ensures.steps;
+      keeps = c.call_next.ensures.keeps;
+      steps = subst (λ x. Step (model_of g.H.Controller g.A.Stage g.B.Stage c.args.self.now) x c.call_next.result (model_of g.H.Controller g.A.Stage g.B.Stage c.call_next.new.self)) (sym c.in-Next.is) c.call_next.ensures.steps;
     }

@@ -8,13 +8,13 @@ use Rattle.machine.proofs.play.Machine+Running+H+A+B.call_next.Goals as goal
 pub returns-in-Head : goal.returns-in-Head
 returns-in-Head g c =
     record {
-      keeps = c.next-for-head.ensures.keeps;
-      steps = subst (λ k. Step (model_of g.H.Controller g.A.Stage g.B.Stage c.args.self.now) (next_call k) (delivered c.next-for-head.result) (model_of g.H.Controller g.A.Stage g.B.Stage c.next-for-head.new.self)) (sym c.in-Head.is) c.next-for-head.ensures.steps;
+      keeps = c.next_for_head.ensures.keeps;
+      steps = subst (λ k. Step (model_of g.H.Controller g.A.Stage g.B.Stage c.args.self.now) (next_call k) (delivered c.next_for_head.result) (model_of g.H.Controller g.A.Stage g.B.Stage c.next_for_head.new.self)) (sym c.in-Head.is) c.next_for_head.ensures.steps;
     }
 
 pub returns-in-Root : goal.returns-in-Root
 returns-in-Root g c =
     record {
-      keeps = c.next-for-root.ensures.keeps;
-      steps = subst₂ (λ k y. Step (model_of g.H.Controller g.A.Stage g.B.Stage c.args.self.now) (next_call k) y (model_of g.H.Controller g.A.Stage g.B.Stage c.next-for-root.new.self)) (sym c.in-Root.is) (sym c.next-told.ensures) c.next-for-root.ensures.steps;
+      keeps = c.next_for_root.ensures.keeps;
+      steps = subst₂ (λ k y. Step (model_of g.H.Controller g.A.Stage g.B.Stage c.args.self.now) (next_call k) y (model_of g.H.Controller g.A.Stage g.B.Stage c.next_for_root.new.self)) (sym c.in-Root.is) (sym c.next_told.ensures) c.next_for_root.ensures.steps;
     }

@@ -12,9 +12,9 @@ pub loop-call-preserved : goal.loop-call-preserved
 loop-call-preserved g c =
     let i = c.loop-call.invariant in (
       c.call.ensures.keeps,
-      rw c.push-reserved.ensures.capacity i.1,
+      rw c.push_reserved.ensures.capacity i.1,
       search rules,
-      rw c.push-reserved.ensures.items
+      rw c.push_reserved.ensures.items
           (run_push (model_of g.H.Controller g.A.Stage g.B.Stage c.args.self.now) (model_of g.H.Controller g.A.Stage g.B.Stage c.loop-call.self) (model_of g.H.Controller g.A.Stage g.B.Stage c.call.new.self) c.args.calls.now (vec_items c.loop-call.answers) c.call.result (Raise 0) c.loop-call.call-index
           i.2 (omega arith) i.3 c.call.ensures.steps),
     )

@@ -4,11 +4,11 @@ use Rattle.lines.proofs.Algebra.{within_from, from_within}
 use Rattle.std.proofs.lemmas.Bool.{both_ways}
 use Rattle.optimistic.specs.Logged.{freed_in, freed_some, freed_none, rest_all, kept_consistent, mask_told, mask_consistent}
 use Rattle.optimistic.proofs.layer.Optimistic.mask.Goals as goal
-use Rattle.optimistic.proofs.layer.Optimistic.mask.Goals.{then-not-is-empty, else-not-is-empty}
+use Rattle.optimistic.proofs.layer.Optimistic.mask.Goals.{then-not-is_empty, else-not-is_empty}
 
-pub returns-then-not-is-within : goal.returns-then-not-is-within
-returns-then-not-is-within g c =
-    let out : Within c.args.set.bits (g.C.Controller.view c.args.self.now.below).lines → ⊥ = λ h. absurd (both_ways _ refl (c.if-not-is-within.ensures.1 (rw c.lines.ensures h))) in
+pub returns-then-not-is_within : goal.returns-then-not-is_within
+returns-then-not-is_within g c =
+    let out : Within c.args.set.bits (g.C.Controller.view c.args.self.now.below).lines → ⊥ = λ h. absurd (both_ways _ refl (c.if-not-is_within.ensures.1 (rw c.lines.ensures h))) in
     record {
       keeps = c.requires;
       fixed = refl;
@@ -17,14 +17,14 @@ returns-then-not-is-within g c =
       untouched = λ h. refl;
     }
 
-pub raise-again-requires : goal.raise-again-requires
-raise-again-requires g c =
+pub raise_again-requires : goal.raise_again-requires
+raise_again-requires g c =
     let s = c.args.self.now in
     let v = g.C.Controller.view s.below in
-    let l : Within c.args.set.bits v.lines = subst (Within c.args.set.bits) c.lines.ensures (c.if-not-is-within.ensures.0 refl) in
-    let m = rw c.common.ensures at c.write-log.ensures.under in (
-      c.write-log.ensures.keeps,
-      rw c.freed-by-freed.ensures (freed_in v s.soft.bits s.log.bits c.args.set.bits c.requires.1 l c.write-log.result _ m),
+    let l : Within c.args.set.bits v.lines = subst (Within c.args.set.bits) c.lines.ensures (c.if-not-is_within.ensures.0 refl) in
+    let m = rw c.common.ensures at c.write_log.ensures.under in (
+      c.write_log.ensures.keeps,
+      rw c.freed_by-freed.ensures (freed_in v s.soft.bits s.log.bits c.args.set.bits c.requires.1 l c.write_log.result _ m),
     )
 
 pub returns : goal.returns
@@ -33,22 +33,22 @@ returns g c =
     let set = c.args.set.bits in
     let log = s.log.bits in
     let v = g.C.Controller.view s.below in
-    let l : Within set v.lines = subst (Within set) c.lines.ensures (c.if-not-is-within.ensures.0 refl) in
-    elim c.if-not-is-empty.branch [
-      | then-not-is-empty w ↦
-          let m = rw w.common.ensures at w.write-log.ensures.under in
-          let u = rw c.freed-by-freed.ensures at w.raise-again.ensures.under in
-          let e = freed_some v s.soft.bits log set c.requires.1 l w.write-log.result _ _ m u in
-          let k = ap (λ z. z.bits) (w.raise-again.ensures.log ∙ w.write-log.ensures.log) ∙ w.common.ensures in
+    let l : Within set v.lines = subst (Within set) c.lines.ensures (c.if-not-is_within.ensures.0 refl) in
+    elim c.if-not-is_empty.branch [
+      | then-not-is_empty w ↦
+          let m = rw w.common.ensures at w.write_log.ensures.under in
+          let u = rw c.freed_by-freed.ensures at w.raise_again.ensures.under in
+          let e = freed_some v s.soft.bits log set c.requires.1 l w.write_log.result _ _ m u in
+          let k = ap (λ z. z.bits) (w.raise_again.ensures.log ∙ w.write_log.ensures.log) ∙ w.common.ensures in
           rw (w.self-is, k) (record {
-            keeps = (w.raise-again.ensures.keeps, mask_consistent v s.soft.bits log set c.requires.1 l _ e);
-            fixed = w.raise-again.ensures.fixed ∙ w.write-log.ensures.fixed;
+            keeps = (w.raise_again.ensures.keeps, mask_consistent v s.soft.bits log set c.requires.1 l _ e);
+            fixed = w.raise_again.ensures.fixed ∙ w.write_log.ensures.fixed;
             leaves = (l, mask_told v s.soft.bits log set c.requires.1 l _ e);
             frees = (l, refl, refl, e);
-            untouched = λ h. absurd (both_ways _ refl (w.if-not-is-empty.ensures.1 (c.freed-by-freed.ensures ∙ from_within log set h)));
+            untouched = λ h. absurd (both_ways _ refl (w.if-not-is_empty.ensures.1 (c.freed_by-freed.ensures ∙ from_within log set h)));
           })
-      | else-not-is-empty w ↦
-          let n = within_from log set (sym c.freed-by-freed.ensures ∙ w.if-not-is-empty.ensures.0 refl) in
+      | else-not-is_empty w ↦
+          let n = within_from log set (sym c.freed_by-freed.ensures ∙ w.if-not-is_empty.ensures.0 refl) in
           let e = freed_none v s.soft.bits log set c.requires.1 l n in
           let k = rest_all v s.soft.bits log set c.requires.1 l n in
           rw w.self-is (record {

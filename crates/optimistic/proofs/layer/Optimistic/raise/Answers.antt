@@ -2,9 +2,9 @@ use Rattle.std.proofs.Common.{sym, refl, inl}
 use Rattle.optimistic.specs.Logged.{raise_logged, raise_below, raise_consistent}
 use Rattle.optimistic.proofs.layer.Optimistic.raise.Goals as goal
 
-pub returns-then-is-logged : goal.returns-then-is-logged
-returns-then-is-logged g c =
-    let l = sym c.if-is-logged.ensures in
+pub returns-then-is_logged : goal.returns-then-is_logged
+returns-then-is_logged g c =
+    let l = sym c.if-is_logged.ensures in
     record {
       keeps = c.requires;
       fixed = refl;
@@ -18,7 +18,7 @@ pub returns : goal.returns
 returns g c =
     let v = g.C.Controller.view c.args.self.now.below in
     let h = c.raise.ensures in
-    let l = sym c.if-is-logged.ensures in
+    let l = sym c.if-is_logged.ensures in
     record {
       keeps = (h.keeps, raise_consistent v _ _ c.requires.1 c.args.line c.raise.result _ h.leaves);
       fixed = h.fixed;

@@ -7,15 +7,15 @@ use Rattle.optimistic.proofs.layer.Optimistic.take.Goals as goal
 pub loop-line-init : goal.loop-line-init
 loop-line-init g c = (c.requires.0, refl, refl, aside_none _ _ _ c.requires.1)
 
-pub returns-then-not-is-soft : goal.returns-then-not-is-soft
-returns-then-not-is-soft g c =
+pub returns-then-not-is_soft : goal.returns-then-not-is_soft
+returns-then-not-is_soft g c =
     let i = c.loop-line.invariant in
     let h = c.in-Some.ensures in
     let v = g.C.Controller.view c.loop-line.self.below in
     let log = c.loop-line.self.log.bits in
     let n = c.in-Some.line in
     let o = g.met.C.Controller.sound c.loop-line.self.below i.0 in
-    let s = rw i.2 at (sym c.if-not-is-soft.ensures) in
+    let s = rw i.2 at (sym c.if-not-is_soft.ensures) in
     rw i.2 (record {
       keeps = (h.keeps, consistent_some _ _ _ c.requires.1 v log i.3 o n h.leaves.0 s _ h.leaves.1);
       fixed = h.fixed ∙ i.1;
@@ -32,9 +32,9 @@ loop-line-smaller g c =
     let v = g.C.Controller.view c.loop-line.self.below in
     let n = c.in-Some.line in
     let o = g.met.C.Controller.sound c.loop-line.self.below i.0 in
-    let s = rw i.2 at (sym c.if-not-is-soft.ensures) in
+    let s = rw i.2 at (sym c.if-not-is_soft.ensures) in
     let k = c.with.ensures ∙ with_deliverable v o n h.leaves.0.one c.loop-line.self.log.bits in
-    aside_less _ _ _ c.requires.1 v c.loop-line.self.log.bits i.3 o n h.leaves.0 s c.end.result c.write-log.result _ _ _ h.leaves.1 c.end.ensures.leaves (rw k at c.write-log.ensures.under)
+    aside_less _ _ _ c.requires.1 v c.loop-line.self.log.bits i.3 o n h.leaves.0 s c.end.result c.write_log.result _ _ _ h.leaves.1 c.end.ensures.leaves (rw k at c.write_log.ensures.under)
 
 pub loop-line-preserved : goal.loop-line-preserved
 loop-line-preserved g c =
@@ -43,19 +43,19 @@ loop-line-preserved g c =
     let v = g.C.Controller.view c.loop-line.self.below in
     let n = c.in-Some.line in
     let o = g.met.C.Controller.sound c.loop-line.self.below i.0 in
-    let s = rw i.2 at (sym c.if-not-is-soft.ensures) in
+    let s = rw i.2 at (sym c.if-not-is_soft.ensures) in
     let k = c.with.ensures ∙ with_deliverable v o n h.leaves.0.one c.loop-line.self.log.bits in
-    rw (c.write-log.ensures.log, k) (
-      c.write-log.ensures.keeps,
-      c.write-log.ensures.fixed ∙ c.end.ensures.fixed ∙ h.fixed ∙ i.1,
-      c.write-log.ensures.soft ∙ i.2,
-      aside_more _ _ _ c.requires.1 v c.loop-line.self.log.bits i.3 o n h.leaves.0 s c.end.result c.write-log.result _ _ _ h.leaves.1 c.end.ensures.leaves (rw k at c.write-log.ensures.under),
+    rw (c.write_log.ensures.log, k) (
+      c.write_log.ensures.keeps,
+      c.write_log.ensures.fixed ∙ c.end.ensures.fixed ∙ h.fixed ∙ i.1,
+      c.write_log.ensures.soft ∙ i.2,
+      aside_more _ _ _ c.requires.1 v c.loop-line.self.log.bits i.3 o n h.leaves.0 s c.end.result c.write_log.result _ _ _ h.leaves.1 c.end.ensures.leaves (rw k at c.write_log.ensures.under),
     )
 
 pub returns : goal.returns
 returns g c =
     let i = c.loop-line.invariant in
-    let h = c.in-default.ensures in
+    let h = c.in_default.ensures in
     let v = g.C.Controller.view c.loop-line.self.below in
     let log = c.loop-line.self.log.bits in
     rw i.2 (record {

@@ -4,8 +4,8 @@ use Rattle.pending_log.specs.Bytes.{flat}
 use Rattle.pending_log.proofs.Bytes.{zeros}
 use Rattle.pending_log.proofs.bitmap.Bitmap.empty.Goals as goal
 
-pub invariant-of-result : goal.invariant-of-result
-invariant-of-result c = ((λ i. rw (zeros i) (omega arith)), ((λ i l. rw (has_none i, zeros i)), tt))
+pub invariant_of-result : goal.invariant_of-result
+invariant_of-result c = ((λ i. rw (zeros i) (omega arith)), ((λ i l. rw (has_none i, zeros i)), tt))
 
 pub returns : goal.returns
 unfolding flat

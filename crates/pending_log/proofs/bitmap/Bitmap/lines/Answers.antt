@@ -5,4 +5,4 @@ use Rattle.pending_log.proofs.bitmap.Bitmap.lines.Goals as goal
 pub returns : goal.returns
 returns c =
     let l : length c.args.self.bytes ≡ 8 = omega arith in
-    c.new.ensures ∙ c.from-le-bytes.ensures ∙ flat_sum c.args.self.bytes l
+    c.new.ensures ∙ c.from_le_bytes.ensures ∙ flat_sum c.args.self.bytes l

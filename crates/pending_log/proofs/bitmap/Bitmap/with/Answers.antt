@@ -9,4 +9,4 @@ returns-then-line-lt64 c =
     let p = c.args.self in
     let n = c.args.line in
     let l : length p.bytes ≡ 8 = omega arith in
-    rw (lt-ltb n 64 (omega arith)) (ap flat c.written.ensures ∙ flat_with p.bytes n c.byte-with.result l (omega arith) p.fits (omega arith) (c.byte-with.ensures ∙ (rw (lt-ltb (n % 8) 8 (omega arith)))))
+    rw (lt-ltb n 64 (omega arith)) (ap flat c.written.ensures ∙ flat_with p.bytes n c.byte_with.result l (omega arith) p.fits (omega arith) (c.byte_with.ensures ∙ (rw (lt-ltb (n % 8) 8 (omega arith)))))

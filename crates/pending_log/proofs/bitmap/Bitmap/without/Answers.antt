@@ -8,7 +8,7 @@ pub returns-then-line-lt64 : goal.returns-then-line-lt64
 returns-then-line-lt64 c =
     let p = c.args.self in
     let l : length p.bytes ≡ 8 = omega arith in
-    ap flat c.written.ensures ∙ flat_without p.bytes c.args.line c.byte-without.result l (omega arith) p.fits (omega arith) c.byte-without.ensures
+    ap flat c.written.ensures ∙ flat_without p.bytes c.args.line c.byte_without.result l (omega arith) p.fits (omega arith) c.byte_without.ensures
 
 pub returns-else-line-lt64 : goal.returns-else-line-lt64
 returns-else-line-lt64 c =

@@ -2,8 +2,8 @@ use Rattle.std.proofs.Common.{◌≡◌, length, arith}
 use Rattle.pending_log.proofs.Bytes.{fits_written, upper_follows}
 use Rattle.pending_log.proofs.bitmap.Bitmap.written.Goals as goal
 
-pub invariant-of-result : goal.invariant-of-result
-invariant-of-result c =
+pub invariant_of-result : goal.invariant_of-result
+invariant_of-result c =
     let p = c.args.self in
     let l : length p.bytes ≡ 8 = omega arith in
     let i = c.args.i in

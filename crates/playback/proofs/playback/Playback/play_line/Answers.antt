@@ -6,8 +6,8 @@ use Rattle.playback.specs.States.{state}
 use Rattle.playback.proofs.Playing.{plays_one, steps_lists}
 use Rattle.playback.proofs.playback.Playback.play_line.Goals as goal
 
-pub slice-bounds-extend-from-slice-end : goal.slice-bounds-extend-from-slice-end
-slice-bounds-extend-from-slice-end c =
+pub slice_bounds-extend_from_slice-end : goal.slice_bounds-extend_from_slice-end
+slice_bounds-extend_from_slice-end c =
     let d = c.step-written in
     let x = levels_in c.args.head.now.places.now c.args.head.now.used in
     let y = levels_in c.args.root.now.places.now c.args.root.now.used in
@@ -18,8 +18,8 @@ slice-bounds-extend-from-slice-end c =
     let h : c.in-Ok.n ≤ length d.new.out = w.0 in
     omega (arith, h)
 
-pub returns-in-ok-extend-from-slice : goal.returns-in-ok-extend-from-slice
-returns-in-ok-extend-from-slice c =
+pub returns-in_ok-extend_from_slice : goal.returns-in_ok-extend_from_slice
+returns-in_ok-extend_from_slice c =
     let d = c.step-written in
     let x = levels_in c.args.head.now.places.now c.args.head.now.used in
     let y = levels_in c.args.root.now.places.now c.args.root.now.used in
@@ -30,10 +30,10 @@ returns-in-ok-extend-from-slice c =
     let on = has_started c.args.self.session in
     let on' = has_started d.result.playback.session in
     let w = steps_lists on on' s s' c.args.line.now (replicate 20 0) d.new.out d.result.written c.in-Ok.n c.in-Ok.is d.ensures.steps in
-    let e : vec_items c.extend-from-slice.new.self ≡ vec_items c.args.listing.now ++ take (c.in-Ok.n - 0) d.new.out = c.in-ok-extend-from-slice.ensures.items in
+    let e : vec_items c.extend_from_slice.new.self ≡ vec_items c.args.listing.now ++ take (c.in-Ok.n - 0) d.new.out = c.in_ok-extend_from_slice.ensures.items in
     record {
       lent = d.ensures.lent;
       plays =
-          plays_one on on' s s' (vec_items c.args.listing.now) (vec_items c.extend-from-slice.new.self) c.args.line.now w.1.0 w.1.1
+          plays_one on on' s s' (vec_items c.args.listing.now) (vec_items c.extend_from_slice.new.self) c.args.line.now w.1.0 w.1.1
           (e ∙ ap (λ k. vec_items c.args.listing.now ++ take k d.new.out) (sub-zero c.in-Ok.n) ∙ ap (λ z. vec_items c.args.listing.now ++ z) w.1.2);
     }

@@ -8,11 +8,11 @@ use Rattle.playback.proofs.playback.Playback.play_text.Goals as goal
 
 pub returns : goal.returns
 returns c =
-    let x = c.in-ok-playback.ensures in
-    let d = c.play-last in
-    let y = c.play-lines.new in
-    let n = c.in-ok-playback.field-0.played in
-    let q = c.in-ok-playback.field-0.playback.session in
+    let x = c.in_ok-playback.ensures in
+    let d = c.play_last in
+    let y = c.play_lines.new in
+    let n = c.in_ok-playback.field-0.played in
+    let q = c.in_ok-playback.field-0.playback.session in
     let s = state c.args.self.session (levels_in c.args.head.now.places.now c.args.head.now.used) (levels_in c.args.root.now.places.now c.args.root.now.used) in
     let s₁ = state q (levels_in y.head.places.now y.head.used) (levels_in y.root.places.now y.root.used) in
     record {

@@ -6,32 +6,32 @@ use Rattle.playback.specs.States.{state}
 use Rattle.playback.proofs.Joining.{feeds_none, feeds_some}
 use Rattle.playback.proofs.stream.Stream.feed.Goals as goal
 
-pub invariant-of-result : goal.invariant-of-result
-invariant-of-result c = (c.keep.ensures.short, tt)
+pub invariant_of-result : goal.invariant_of-result
+invariant_of-result c = (c.keep.ensures.short, tt)
 
-pub returns-in-default : goal.returns-in-default
-returns-in-default c =
+pub returns-in_default : goal.returns-in_default
+returns-in_default c =
     let q = c.args.self.playback.session in
     record {
       lent = (refl, refl);
       feeds =
           feeds_none (has_started q) (state q (levels_in c.args.head.now.places.now c.args.head.now.used) (levels_in c.args.root.now.places.now c.args.root.now.used))
-          (vec_items c.args.self.begun) c.args.block.now (vec_items c.args.listing.now) (vec_items c.keep.new.begun) c.in-default.ensures c.in-ok-keep.ensures.kept;
+          (vec_items c.args.self.begun) c.args.block.now (vec_items c.args.listing.now) (vec_items c.keep.new.begun) c.in_default.ensures c.in_ok-keep.ensures.kept;
     }
 
-pub invariant-of-result-2 : goal.invariant-of-result-2
-invariant-of-result-2 c = (c.keep-3.ensures.short, tt)
+pub invariant_of-result-2 : goal.invariant_of-result-2
+invariant_of-result-2 c = (c.keep-3.ensures.short, tt)
 
 pub returns : goal.returns
 returns c =
     let q = c.args.self.playback.session in
-    let d = c.play-line.new in
-    let o = c.in-ok-playback.playback.session in
-    let x = c.in-ok-playback.ensures in
-    let f = c.play-lines.new in
-    let p = c.in-ok-playback-2.field-0.playback.session in
-    let n = c.in-ok-playback-2.field-0.played in
-    let y = c.in-ok-playback-2.ensures in
+    let d = c.play_line.new in
+    let o = c.in_ok-playback.playback.session in
+    let x = c.in_ok-playback.ensures in
+    let f = c.play_lines.new in
+    let p = c.in_ok-playback-2.field-0.playback.session in
+    let n = c.in_ok-playback-2.field-0.played in
+    let y = c.in_ok-playback-2.ensures in
     let rest = c.in-Some.rest.now in
     let tail = take (length rest - n) (drop n rest) in
     record {
@@ -42,6 +42,6 @@ returns c =
           (state o (levels_in d.head.places.now d.head.used) (levels_in d.root.places.now d.root.used))
           (state p (levels_in f.head.places.now f.head.used) (levels_in f.root.places.now f.root.used))
           (vec_items c.args.self.begun) c.args.block.now c.in-Some.line.now rest (vec_items c.args.listing.now) (vec_items d.listing) (vec_items f.listing) c.deref.result.now
-          tail (vec_items c.keep-3.new.begun) n c.in-Some.ensures (c.deref.ensures.value ∙ c.in-ok-keep-2.ensures.kept) x.plays y.plays.0 (take_rest rest n) y.plays.2
-          (c.in-ok-keep-3.ensures.kept ∙ ap (λ z. take 81 (z ++ tail)) c.clear.ensures.items);
+          tail (vec_items c.keep-3.new.begun) n c.in-Some.ensures (c.deref.ensures.value ∙ c.in_ok-keep-2.ensures.kept) x.plays y.plays.0 (take_rest rest n) y.plays.2
+          (c.in_ok-keep-3.ensures.kept ∙ ap (λ z. take 81 (z ++ tail)) c.clear.ensures.items);
     }

@@ -8,7 +8,7 @@ use Rattle.playback.proofs.stream.Stream.finish.Goals as goal
 pub returns : goal.returns
 returns c =
     let q = c.args.self.playback.session in
-    let d = c.play-last in
+    let d = c.play_last in
     record {
       lent = d.ensures.lent;
       finishes =

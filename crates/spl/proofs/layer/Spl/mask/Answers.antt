@@ -10,9 +10,9 @@ returns g c =
     let set = c.args.set.bits in
     let low = s.low.bits in
     let v = g.C.Controller.view s.below in
-    let l : Within set v.lines = subst (Within set) c.lines.ensures (c.if-not-is-within.ensures.0 refl) in
-    let m = c.write-mask.ensures in
-    let w = written v _ set low l c.requires.1.low_are c.write-mask.result _ m.under in
+    let l : Within set v.lines = subst (Within set) c.lines.ensures (c.if-not-is_within.ensures.0 refl) in
+    let m = c.write_mask.ensures in
+    let w = written v _ set low l c.requires.1.low_are c.write_mask.result _ m.under in
     let t = m.settings in
     rw (w.0, t.0, t.1, t.2, t.3) (record {
       keeps = (m.keeps, written_consistent v _ set low l c.requires.1.low_are _ w.1, c.requires.2);
