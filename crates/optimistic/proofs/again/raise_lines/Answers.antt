@@ -12,7 +12,7 @@ loop-line-preserved g c =
     let h = c.raise.ensures in
     let p = c.in-Some.ensures.steps in
     let s = c.into_iter-line-iterator.result.rest.bits in
-    let e = ap (λ z. z.rest.bits) c.into_iter-line-iterator.ensures.into_iter-gives ∙ c.lines-line-items.ensures in
+    let e = ap (λ z. z.rest.bits) c.into_iter-line-iterator.ensures.into_iter_gives ∙ c.lines-line-items.ensures in
     let v₀ = g.C.Controller.view c.args.below.now in
     let w : Within s v₀.lines = subst (λ z. Within z v₀.lines) (sym e) c.requires.1 in
     rw p.1 (
@@ -24,7 +24,7 @@ loop-line-preserved g c =
 pub returns : goal.returns
 returns g c =
     let i = c.loop-line.invariant in
-    let e = ap (λ z. z.rest.bits) c.into_iter-line-iterator.ensures.into_iter-gives ∙ c.lines-line-items.ensures in
+    let e = ap (λ z. z.rest.bits) c.into_iter-line-iterator.ensures.into_iter_gives ∙ c.lines-line-items.ensures in
     record {
       keeps = i.0;
       fixed = i.1;

@@ -9,7 +9,7 @@ loop-i-init c =
     let p = c.args.self in
     let l : length p.bytes ≡ 8 = omega arith in
     let e : c.into_iter-i-iterator.result.rest.bits ≡ p.upper =
-    ap (λ z. z.rest.bits) c.into_iter-i-iterator.ensures.into_iter-gives ∙ c.lines-i-items.ensures ∙ c.new.ensures ∙ c.from.ensures in
+    ap (λ z. z.rest.bits) c.into_iter-i-iterator.ensures.into_iter_gives ∙ c.lines-i-items.ensures ∙ c.new.ensures ∙ c.from.ensures in
     λ n h. rw e (upper_has p.bytes l p.fits p.upper p.summary n (in_minus _ _ n h).0)
 
 pub loop-i-preserved : goal.loop-i-preserved

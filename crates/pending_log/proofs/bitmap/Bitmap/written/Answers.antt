@@ -8,4 +8,7 @@ invariant_of-result c =
     let l : length p.bytes ≡ 8 = omega arith in
     let i = c.args.i in
     let x = c.args.byte in
-    (fits_written p.bytes i x l c.requires p.fits (omega arith), (rw c.upper_written.ensures (upper_follows p.bytes i x l c.requires p.upper p.summary), tt))
+    record {
+      fits = fits_written p.bytes i x l c.requires p.fits (omega arith);
+      summary = rw c.upper_written.ensures (upper_follows p.bytes i x l c.requires p.upper p.summary);
+    }

@@ -8,7 +8,7 @@ use Rattle.cabinet.proofs.Starting.{made, made_stage, stage_is, machine_is}
 use Rattle.playback.proofs.playback.Playback.new.Goals as goal
 
 pub invariant_of-result : goal.invariant_of-result
-invariant_of-result c = (∣ c.lay_out-machine.ensures.keeps ∣₁, tt)
+invariant_of-result c = record { consistent = ∣ c.lay_out-machine.ensures.keeps ∣₁ }
 
 pub returns : goal.returns
 returns c =

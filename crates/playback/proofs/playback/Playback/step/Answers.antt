@@ -5,4 +5,4 @@ pub step-session-requires : goal.step-session-requires
 step-session-requires c = is_consistent c.args.self.session c.args.self.consistent
 
 pub invariant_of-result : goal.invariant_of-result
-invariant_of-result c = (∣ c.step-session.ensures.keeps ∣₁, tt)
+invariant_of-result c = record { consistent = ∣ c.step-session.ensures.keeps ∣₁ }

@@ -7,7 +7,7 @@ use Rattle.playback.proofs.Joining.{feeds_none, feeds_some}
 use Rattle.playback.proofs.stream.Stream.feed.Goals as goal
 
 pub invariant_of-result : goal.invariant_of-result
-invariant_of-result c = (c.keep.ensures.short, tt)
+invariant_of-result c = record { short = c.keep.ensures.short }
 
 pub returns-in_default : goal.returns-in_default
 returns-in_default c =
@@ -20,7 +20,7 @@ returns-in_default c =
     }
 
 pub invariant_of-result-2 : goal.invariant_of-result-2
-invariant_of-result-2 c = (c.keep-3.ensures.short, tt)
+invariant_of-result-2 c = record { short = c.keep-3.ensures.short }
 
 pub returns : goal.returns
 returns c =
