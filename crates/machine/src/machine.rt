@@ -35,9 +35,9 @@ fn can_handle(lines: LineSet, line: u8, handles: bool) -> bool
 impl<H: Controller, A: Stage, B: Stage> Machine<LaidOut, H, A, B> {
     // A machine with no route set: the head passes each line on, and the root handles those that its stage has.
     pub fn lay_out(hardware: H, head: A, root: B) -> Self
-        requires consistent { H.Controller.consistent hardware }
-        requires consistent_2 { A.Stage.consistent head }
-        requires consistent_3 { B.Stage.consistent root }
+        requires hardware_in_order { H.Controller.consistent hardware }
+        requires head_in_order { A.Stage.consistent head }
+        requires root_in_order { B.Stage.consistent root }
         ensures keeps { ConsistentLaidOut H.Controller A.Stage B.Stage result }
         ensures model { model_of H.Controller A.Stage B.Stage result ≡ machine (H.Controller.view hardware) (A.Stage.model head) (B.Stage.model root) (default_routes (H.Controller.view hardware).lines (B.Stage.model root).own.lines) }
         ensures fresh { Made (H.Controller.view hardware) → MadeStage (A.Stage.model head) → MadeStage (B.Stage.model root) → Fresh (model_of H.Controller A.Stage B.Stage result) }

@@ -127,9 +127,9 @@ impl<H: Controller, A: Stage, B: Stage> Machine<Running, H, A, B> {
 
     // Plays the calls one after another, and notes their answers.
     fn play(&mut self, calls: &[Call], answers: &mut Vec<Answer>)
-        requires consistent_of { ConsistentOf H.Controller A.Stage B.Stage self.old }
-        requires answers_value { answers.old.items ≡ [] }
-        requires calls_len_bound { length calls.now ≤ vec_capacity answers.old }
+        requires in_order { ConsistentOf H.Controller A.Stage B.Stage self.old }
+        requires no_answer_yet { answers.old.items ≡ [] }
+        requires room { length calls.now ≤ vec_capacity answers.old }
         ensures keeps { ConsistentOf H.Controller A.Stage B.Stage self.new }
         ensures all { length answers.new.items ≡ length calls.now }
         ensures ran { Run (model_of H.Controller A.Stage B.Stage self.old) (entries calls.now answers.new.items) (model_of H.Controller A.Stage B.Stage self.new) }

@@ -31,7 +31,7 @@ pub fn set_level<P: Policy, H: Controller, A: Stage, B: Stage>(
     kernel: Kernel,
     code: u8,
 ) -> Result<Listed, TraceFault>
-    requires consistent_of { ConsistentOf H.Controller A.Stage B.Stage machine.old }
+    requires in_order { ConsistentOf H.Controller A.Stage B.Stage machine.old }
     requires linked { Linked (P.Policy.named policy.now) (P.Policy.codes policy.now) ((model_of H.Controller A.Stage B.Stage machine.old).stage kernel) }
     ensures keeps { ConsistentOf H.Controller A.Stage B.Stage machine.new }
     ensures lent { saved.new.places.ghost_name ≡ saved.old.places.ghost_name }
@@ -93,7 +93,7 @@ pub fn restore_level<P: Policy, H: Controller, A: Stage, B: Stage>(
     saved: &mut LevelStack<'_, P::Kind>,
     kernel: Kernel,
 ) -> Result<Listed, TraceFault>
-    requires consistent_of { ConsistentOf H.Controller A.Stage B.Stage machine.old }
+    requires in_order { ConsistentOf H.Controller A.Stage B.Stage machine.old }
     requires linked { Linked (P.Policy.named policy.now) (P.Policy.codes policy.now) ((model_of H.Controller A.Stage B.Stage machine.old).stage kernel) }
     ensures keeps { ConsistentOf H.Controller A.Stage B.Stage machine.new }
     ensures lent { saved.new.places.ghost_name ≡ saved.old.places.ghost_name }

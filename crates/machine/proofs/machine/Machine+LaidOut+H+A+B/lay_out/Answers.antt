@@ -12,7 +12,7 @@ returns g c =
     let b = g.B.Stage.model c.args.root in
     let e : c.common.result.bits ≡ common v.lines b.own.lines = c.common.ensures ∙ ap₂ common c.lines-lines.ensures c.ask.ensures in
     record {
-      keeps = ((c.requires.0, c.requires.1, c.requires.2), none_within a.own.lines, subst (λ z. Within z b.own.lines) (sym e) (common_right v.lines b.own.lines));
+      keeps = ((c.requires.hardware_in_order, c.requires.head_in_order, c.requires.root_in_order), none_within a.own.lines, subst (λ z. Within z b.own.lines) (sym e) (common_right v.lines b.own.lines));
       model = ap₂ (λ x y. machine v a b (routes 0 x y)) c.lines-lines.ensures e;
       fresh = fresh_machine v a b (routes 0 c.lines-lines.result.bits c.common.result.bits);
     }

@@ -6,7 +6,7 @@ use Rattle.machine.proofs.play.Machine+Running+H+A+B.play.Goals as goal
 
 pub loop-call-init : goal.loop-call-init
 loop-call-init g c =
-    (c.requires.0, c.requires.2, ap length c.requires.1, run_none (model_of g.H.Controller g.A.Stage g.B.Stage c.args.self.now) c.args.calls.now (vec_items c.args.answers.now) c.requires.1)
+    (c.requires.in_order, c.requires.room, ap length c.requires.no_answer_yet, run_none (model_of g.H.Controller g.A.Stage g.B.Stage c.args.self.now) c.args.calls.now (vec_items c.args.answers.now) c.requires.no_answer_yet)
 
 pub loop-call-preserved : goal.loop-call-preserved
 loop-call-preserved g c =
