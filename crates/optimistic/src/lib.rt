@@ -1,4 +1,6 @@
 // The optimistic layer over any controller.
+#![tactic(auto)]
+
 mod again;
 mod layer;
 

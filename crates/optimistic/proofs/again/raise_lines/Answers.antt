@@ -4,7 +4,7 @@ use Rattle.optimistic.proofs.Raising.{raising_none, raising_more, raising_all}
 use Rattle.optimistic.proofs.again.raise_lines.Goals as goal
 
 pub loop-line-init : goal.loop-line-init
-loop-line-init g c = (c.requires.0, refl, raising_none _ _)
+loop-line-init g c = (c.requires.consistent, refl, raising_none _ _)
 
 pub loop-line-preserved : goal.loop-line-preserved
 loop-line-preserved g c =
@@ -14,7 +14,7 @@ loop-line-preserved g c =
     let s = c.into_iter-line-iterator.result.rest.bits in
     let e = ap (λ z. z.rest.bits) c.into_iter-line-iterator.ensures.into_iter_gives ∙ c.lines-line-items.ensures in
     let v₀ = g.C.Controller.view c.args.below.now in
-    let w : Within s v₀.lines = subst (λ z. Within z v₀.lines) (sym e) c.requires.1 in
+    let w : Within s v₀.lines = subst (λ z. Within z v₀.lines) (sym e) c.requires.within in
     rw p.1 (
       h.keeps,
       h.fixed ∙ i.1,

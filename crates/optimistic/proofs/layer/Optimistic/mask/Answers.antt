@@ -1,5 +1,5 @@
 use Rattle.std.proofs.Common.{sym, refl, ap, ◌∙◌, subst}
-use Rattle.lines.specs.Sets.{Within, common}
+use Rattle.lines.specs.Sets.{Within}
 use Rattle.lines.proofs.Algebra.{within_from, from_within}
 use Rattle.std.proofs.lemmas.Bool.{both_ways}
 use Rattle.optimistic.specs.Logged.{freed_in, freed_some, freed_none, rest_all, kept_consistent, mask_told, mask_consistent}
@@ -22,10 +22,11 @@ raise_again-requires g c =
     let s = c.args.self.now in
     let v = g.C.Controller.view s.below in
     let l : Within c.args.set.bits v.lines = subst (Within c.args.set.bits) c.lines.ensures (c.if-not-is_within.ensures.0 refl) in
-    let m = rw c.common.ensures at c.write_log.ensures.under in (
-      c.write_log.ensures.keeps,
-      rw c.freed_by-freed.ensures (freed_in v s.soft.bits s.log.bits c.args.set.bits c.requires.1 l c.write_log.result _ m),
-    )
+    let m = rw c.common.ensures at c.write_log.ensures.under in
+    record {
+      consistent = c.write_log.ensures.keeps;
+      within = rw c.freed_by-freed.ensures (freed_in v s.soft.bits s.log.bits c.args.set.bits c.requires.1 l c.write_log.result _ m);
+    }
 
 pub returns : goal.returns
 returns g c =
