@@ -5,7 +5,7 @@ use Rattle.spl.proofs.policy.not_above.Goals as goal
 
 pub loop-line-init : goal.loop-line-init
 loop-line-init g c =
-    let e = ap (λ z. z.rest.bits) c.into_iter-line-iterator.ensures.into_iter-gives ∙ c.lines-line-items.ensures in
+    let e = ap (λ z. z.rest.bits) c.into_iter-line-iterator.ensures.into_iter_gives ∙ c.lines-line-items.ensures in
     let above : ℕ → Bool = λ n. g.P.Kind.Level.above (g.P.Policy.levels c.args.policy.now n) c.args.level in
     subst (λ s. Lowering s above s c.args.lines.bits) (sym e) (lowering_none c.args.lines.bits above)
 
@@ -27,6 +27,6 @@ loop-line-preserved-then-is_over g c =
 
 pub returns : goal.returns
 returns g c =
-    let e = ap (λ z. z.rest.bits) c.into_iter-line-iterator.ensures.into_iter-gives ∙ c.lines-line-items.ensures in
+    let e = ap (λ z. z.rest.bits) c.into_iter-line-iterator.ensures.into_iter_gives ∙ c.lines-line-items.ensures in
     let above : ℕ → Bool = λ n. g.P.Kind.Level.above (g.P.Policy.levels c.args.policy.now n) c.args.level in
     subst (λ s. Low s above c.loop-line.low.bits) e (lowering_all _ above _ c.loop-line.low.bits c.in-None.ensures.steps.0 c.loop-line.invariant)
