@@ -1,6 +1,6 @@
 -- The root's codes and the levels that they stand for.
 use Rattle.std.specs.Prelude.{◌≡◌, ℕ, zero, suc, ◌≤◌, Some, Option, refl}
-use Rattle.std.proofs.Common.{sym, ap, ◌∙◌, arith}
+use Rattle.std.proofs.Common.{ap, ◌∙◌, arith}
 use Rattle.std.specs.declared.option.Option.TheVariants as option
 use Rattle.levels.specs.declared.BsdLevel.{BsdLevel}
 use Rattle.levels.specs.declared.BsdLevel.TheVariants.{None, SoftClock, SoftNet, Bio, Net, Tty, Clock, High}

@@ -1,4 +1,6 @@
 // The spl layer over any controller, and the policies of the head and the root kernel.
+#![tactic(auto)]
+
 mod fault;
 mod head;
 mod layer;

@@ -7,7 +7,7 @@ returns g c =
     let v = g.C.Controller.view c.args.below in
     let o = g.met.C.Controller.sound c.args.below c.requires in
     let p = c.args.policy in
-    rw (c.lowest_level.ensures, c.masked-own.ensures) (record {
+    rw (c.lowest-level.ensures, c.masked-own.ensures) (record {
       keeps = (c.requires, made_consistent v _ o (λ n. g.met.P.Policy.higher p n), g.met.P.Policy.settable p);
       told = made_told v;
       below = refl;
