@@ -1,8 +1,8 @@
 -- The set of the numbers of a list.
-use Rattle.std.proofs.Common.{◌≡◌, ℕ, Bool, true, false, ◌||◌, List, [], ◌∷◌, ◌++◌, sym, refl, ap, ◌∙◌, arith}
+use Rattle.std.proofs.Common.{◌≡◌, ℕ, List, [], ◌∷◌, ◌++◌, ap, ◌∙◌, arith}
 use Rattle.std.proofs.lemmas.Bool.Decides.{nat_tests}
-use Rattle.lines.specs.Sets.{has, union, only}
-use Rattle.lines.proofs.Laws.{ext, has-union, has_none}
+use Rattle.lines.specs.Sets.{union, only}
+use Rattle.lines.proofs.Laws.{ext, has-union}
 use Rattle.lines.proofs.Algebra.{union_assoc}
 use Rattle.service.specs.Bursts.{set_of}
 

@@ -1,12 +1,11 @@
 -- Raising the lines of a burst, one after another.
-use Rattle.std.proofs.Common.{◌≡◌, ℕ, ◌+◌, ◌<◌, Bool, true, false, cond, ◌&&◌, ◌||◌, eqb, ◌⊎◌, List, [], ◌∷◌, ◌++◌, length, get_or, take, Ok, Err, Result, sym, refl, ap, ◌∙◌, subst, inl, inr, arith}
+use Rattle.std.proofs.Common.{◌≡◌, ℕ, ◌+◌, ◌<◌, true, false, cond, List, [], ◌∷◌, ◌++◌, length, get_or, take, Ok, Err, Result, sym, refl, ap, ◌∙◌, subst, inl, inr, arith}
 use Rattle.std.proofs.lemmas.Bool.Decides.{nat_tests}
 use Rattle.std.proofs.lemmas.Bool.{cases_eq}
 use Rattle.std.proofs.lemmas.List.{take_more, take_all, length_push, get_or_push, get_or_append_left}
 use Rattle.lines.specs.Sets.{has, union, common, only}
 use Rattle.lines.proofs.Laws.{ext, has-union, has-common, has-only, has_none}
 use Rattle.controller.specs.declared.fault.ControllerFault.{ControllerFault}
-use Rattle.controller.specs.declared.fault.ControllerFault.TheVariants.{NoSuchLine}
 use Rattle.controller.specs.declared.fault.Raised.{Raised}
 use Rattle.controller.specs.declared.fault.Raised.TheVariants.{New, Merged}
 use Rattle.controller.specs.View.{View, set_pending}

@@ -1,5 +1,5 @@
 -- A burst of requests: what raising its lines one after another answers and leaves, and what serving them does.
-use Rattle.std.specs.Prelude.{◌≡◌, ℕ, ◌<◌, Bool, true, false, cond, List, [], ◌∷◌, length, take, Ok, Err, Decides, Result, slice_index, slice_index_or}
+use Rattle.std.specs.Prelude.{◌≡◌, ℕ, ◌<◌, true, cond, List, [], ◌∷◌, length, take, Ok, Err, Decides, Result, slice_index, slice_index_or}
 use Rattle.lines.specs.Sets.{has, union, common, minus, only}
 use Rattle.controller.specs.declared.fault.ControllerFault.{ControllerFault}
 use Rattle.controller.specs.declared.fault.ControllerFault.TheVariants.{NoSuchLine}

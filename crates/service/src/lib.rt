@@ -1,4 +1,6 @@
 // Serving a burst of requests on any controller.
+#![tactic(auto)]
+
 ghost use Rattle.std.specs.Prelude.{◌≡◌, ℕ, ◌<◌, ◌≤◌, Bool, true, false, List, [], ◌∷◌, ◌++◌, length, vec_len, vec_capacity, Decides, MatchResult};
 ghost use Rattle.lines.specs.Sets.{has, common};
 ghost use Rattle.controller.specs.View.{View, Sound, fresh};

@@ -1,10 +1,10 @@
-use Rattle.std.proofs.Common.{◌≡◌, length, sym, refl, ap, ◌∙◌, subst, arith}
+use Rattle.std.proofs.Common.{◌≡◌, length, sym, refl, ◌∙◌, subst, arith}
 use Rattle.service.proofs.Raising.{Raising, raising_none, raising_more, raising_all}
 use Rattle.service.proofs.raise_each.Goals as goal
 
 pub loop-line-init : goal.loop-line-init
 loop-line-init g c =
-    (c.requires.0, refl, c.requires.2, subst (Raising (g.C.Controller.view c.args.controller.now) (g.C.Controller.view c.args.controller.now) c.args.requests.now 0) (sym c.requires.1) (raising_none _ _))
+    (c.requires.consistent, refl, c.requires.requests_len_bound, subst (Raising (g.C.Controller.view c.args.controller.now) (g.C.Controller.view c.args.controller.now) c.args.requests.now 0) (sym c.requires.answers_value) (raising_none _ _))
 
 pub loop-line-preserved : goal.loop-line-preserved
 loop-line-preserved g c =

@@ -1,4 +1,4 @@
-use Rattle.std.proofs.Common.{◌≡◌, vec_items, ◌∙◌, subst}
+use Rattle.std.proofs.Common.{vec_items, ◌∙◌, subst}
 use Rattle.service.specs.Bursts.{Serves}
 use Rattle.service.proofs.Serving.{serves_fresh}
 use Rattle.service.proofs.serve.Goals as goal

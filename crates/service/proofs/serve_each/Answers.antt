@@ -1,6 +1,5 @@
-use Rattle.std.proofs.Common.{◌≡◌, length, vec_items, sym, refl, ap, ◌∙◌, subst, arith}
-use Rattle.controller.specs.View.{View}
-use Rattle.controller.proofs.Served.{served, taken_ended}
+use Rattle.std.proofs.Common.{vec_items, sym, refl, ◌∙◌, subst, arith}
+use Rattle.controller.proofs.Served.{taken_ended}
 use Rattle.service.specs.Bursts.{Serves}
 use Rattle.service.proofs.Serving.{Progress, progress_none, progress_more, progress_less, progress_all, room}
 use Rattle.service.proofs.serve_each.Goals as goal
@@ -8,12 +7,12 @@ use Rattle.service.proofs.serve_each.Goals as goal
 pub loop-line-init : goal.loop-line-init
 loop-line-init g c =
     let v = g.C.Controller.view c.args.controller.now in
-    (c.requires.0, refl, c.requires.2, subst (Progress v v) (sym c.requires.1) (progress_none v))
+    (c.requires.consistent, refl, c.requires.bound, subst (Progress v v) (sym c.requires.served_value) (progress_none v))
 
 pub note-requires : goal.note-requires
 note-requires g c =
     let i = c.loop-line.invariant in
-    let o = g.met.C.Controller.sound c.args.controller.now c.requires.0 in
+    let o = g.met.C.Controller.sound c.args.controller.now c.requires.consistent in
     let f = c.in-Some.ensures.leaves.0 in
     omega (arith, room _ _ (vec_items c.loop-line.served) i.3 o c.in-Some.line f, i.2, c.loop-line.served.ok.0)
 
@@ -21,7 +20,7 @@ pub loop-line-smaller : goal.loop-line-smaller
 loop-line-smaller g c =
     let i = c.loop-line.invariant in
     let v = g.C.Controller.view c.loop-line.controller in
-    let o₀ = g.met.C.Controller.sound c.args.controller.now c.requires.0 in
+    let o₀ = g.met.C.Controller.sound c.args.controller.now c.requires.consistent in
     let o = g.met.C.Controller.sound c.loop-line.controller i.0 in
     let h = c.in-Some.ensures.leaves in
     let e = (taken_ended v o c.in-Some.line h.0.one c.end.result _ (g.C.Controller.view c.end.new.self) h.1 c.end.ensures.leaves).1 in
@@ -31,7 +30,7 @@ pub loop-line-preserved : goal.loop-line-preserved
 loop-line-preserved g c =
     let i = c.loop-line.invariant in
     let v = g.C.Controller.view c.loop-line.controller in
-    let o₀ = g.met.C.Controller.sound c.args.controller.now c.requires.0 in
+    let o₀ = g.met.C.Controller.sound c.args.controller.now c.requires.consistent in
     let o = g.met.C.Controller.sound c.loop-line.controller i.0 in
     let h = c.in-Some.ensures in
     let e = (taken_ended v o c.in-Some.line h.leaves.0.one c.end.result _ (g.C.Controller.view c.end.new.self) h.leaves.1 c.end.ensures.leaves).1 in (
