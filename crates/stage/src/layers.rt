@@ -17,11 +17,11 @@ use stall::Stall;
 // The stage on a controller: it tells what the controller tells, at the policy's lowest level and not stalled.
 pub fn on<P: Policy, C: Controller>(policy: P, controller: C) -> Stall<Spl<P, C>>
     requires { C.Controller.consistent controller }
-    ensures keeps { LayerConsistent P.Policy Kind-as-Level C.Controller result.below }
-    ensures own { (stage_model P.Policy Kind-as-Level C.Controller result).own ≡ C.Controller.view controller }
-    ensures policy { (stage_model P.Policy Kind-as-Level C.Controller result).policy ≡ policy_model P.Policy Kind-as-Level policy }
-    ensures lowest { (stage_model P.Policy Kind-as-Level C.Controller result).level ≡ (policy_model P.Policy Kind-as-Level policy).lowest }
-    ensures unstalled { (stage_model P.Policy Kind-as-Level C.Controller result).stalled ≡ false }
+    ensures keeps { LayerConsistent P.Policy P.Kind.Level C.Controller result.below }
+    ensures own { (stage_model P.Policy P.Kind.Level C.Controller result).own ≡ C.Controller.view controller }
+    ensures policy { (stage_model P.Policy P.Kind.Level C.Controller result).policy ≡ policy_model P.Policy P.Kind.Level policy }
+    ensures lowest { (stage_model P.Policy P.Kind.Level C.Controller result).level ≡ (policy_model P.Policy P.Kind.Level policy).lowest }
+    ensures unstalled { (stage_model P.Policy P.Kind.Level C.Controller result).stalled ≡ false }
 {
     Stall::new(Spl::new(policy, controller))
 }
@@ -66,9 +66,9 @@ fn set_by_code<P: Policy, C: Controller>(
     layers: &mut Stall<Spl<P, C>>,
     code: u8,
 ) -> Result<(), LevelFault>
-    requires { LayerConsistent P.Policy Kind-as-Level C.Controller layers.old.below }
-    ensures keeps { LayerConsistent P.Policy Kind-as-Level C.Controller layers.new.below }
-    ensures sets { SetsByCode code (stage_model P.Policy Kind-as-Level C.Controller layers.old) result (stage_model P.Policy Kind-as-Level C.Controller layers.new) }
+    requires { LayerConsistent P.Policy P.Kind.Level C.Controller layers.old.below }
+    ensures keeps { LayerConsistent P.Policy P.Kind.Level C.Controller layers.new.below }
+    ensures sets { SetsByCode code (stage_model P.Policy P.Kind.Level C.Controller layers.old) result (stage_model P.Policy P.Kind.Level C.Controller layers.new) }
 {
     let Some(level) = layers.below.policy().level_from(code) else {
         return Err(LevelFault::NoSuchLevel);
@@ -78,9 +78,9 @@ fn set_by_code<P: Policy, C: Controller>(
 }
 
 impl<P: Policy, C: Controller> Stage for Stall<Spl<P, C>> {
-    ghost model = { λ s. stage_model P.Policy Kind-as-Level C.Controller s };
+    ghost model = { λ s. stage_model P.Policy P.Kind.Level C.Controller s };
 
-    ghost consistent = { λ s. LayerConsistent P.Policy Kind-as-Level C.Controller s.below };
+    ghost consistent = { λ s. LayerConsistent P.Policy P.Kind.Level C.Controller s.below };
 
     ghost sound = { λ s h.
         let v = C.Controller.view s.below.below in

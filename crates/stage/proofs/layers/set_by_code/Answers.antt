@@ -17,7 +17,7 @@ returns g c =
       keeps = e.keeps;
       sets = (
         ap names_one named,
-        level_set g.P.Policy g.Kind.Level g.C.Controller t u s.stalled code c.in-Some.level (union t.own.bits u.low.bits) (g.met.P.Policy.decodes t.policy code) named e.sets.2 e.policy
+        level_set g.P.Policy g.P.Kind.Level g.C.Controller t u s.stalled code c.in-Some.level (union t.own.bits u.low.bits) (g.met.P.Policy.decodes t.policy code) named e.sets.2 e.policy
             e.own e.under,
       );
     }

@@ -11,7 +11,7 @@ returns-then-self g c =
     let s = c.args.self.now in
     let t = s.below in
     let v = g.C.Controller.view t.below in
-    let p = policy_model g.P.Policy g.Kind.Level t.policy in
+    let p = policy_model g.P.Policy g.P.Kind.Level t.policy in
     let l = code_number (g.P.Policy.codes t.policy t.level) in
     record {
       keeps = c.requires;
@@ -23,15 +23,15 @@ returns-else-self g c =
     let s = c.args.self.now in
     let t = s.below in
     let v = g.C.Controller.view t.below in
-    let p = policy_model g.P.Policy g.Kind.Level t.policy in
+    let p = policy_model g.P.Policy g.P.Kind.Level t.policy in
     let l = code_number (g.P.Policy.codes t.policy t.level) in
     let e = c.take.ensures in
     let u = c.take.new.self in
     let w = g.C.Controller.view u.below in
     let o = g.met.C.Controller.sound t.below c.requires.0 in
-    let low = low_now g.P.Policy g.Kind.Level g.C.Controller g.met.P.Policy.decodes g.met.P.Policy.distinct t o c.requires in
+    let low = low_now g.P.Policy g.P.Kind.Level g.C.Controller g.met.P.Policy.decodes g.met.P.Policy.distinct t o c.requires in
     record {
       keeps = e.keeps;
-      leaves = after_call g.P.Policy g.Kind.Level g.C.Controller (Through Takes) c.take.result t (u) s.stalled e.settings
+      leaves = after_call g.P.Policy g.P.Kind.Level g.C.Controller (Through Takes) c.take.result t (u) s.stalled e.settings
           (takes_through v w t.own.bits t.low.bits p l s.stalled c.take.result c.if-self.false low (rw (e.settings.2, e.settings.3) at e.leaves) e.under);
     }
