@@ -7,41 +7,41 @@ use Rattle.machine.specs.Answering.{done_answer}
 use Rattle.machine.proofs.Changed.{carried}
 use Rattle.machine.proofs.machine.Machine.done.Goals as goal
 
-pub returns-in_err-line : goal.returns-in_err-line
-returns-in_err-line g c =
+pub returns-in_err-line-in-Head : goal.returns-in_err-line-in-Head
+returns-in_err-line-in-Head g c =
     let m = model_of g.H.Controller g.A.Stage g.B.Stage c.args.self.now in
     let n = model_of g.H.Controller g.A.Stage g.B.Stage c.done_at_head.new.self in
-    let e = c.in_err-line.ensures in
+    let e = c.in_err-line-in-Head.ensures in
     record {
       keeps = e.keeps;
       steps = subst₂ (λ k x. Step m (to_call k (done_call)) x n) (sym c.in-Head.is) (sym (carried done_answer c.from_residual.result _ c.from_residual.ensures.1)) e.steps;
     }
 
-pub returns-in_ok-line : goal.returns-in_ok-line
-returns-in_ok-line g c =
+pub returns-in_ok-line-in-Head : goal.returns-in_ok-line-in-Head
+returns-in_ok-line-in-Head g c =
     let m = model_of g.H.Controller g.A.Stage g.B.Stage c.args.self.now in
     let n = model_of g.H.Controller g.A.Stage g.B.Stage c.done_at_head.new.self in
-    let e = c.in_ok-line.ensures in
+    let e = c.in_ok-line-in-Head.ensures in
     record {
       keeps = e.keeps;
       steps = subst₂ (λ k x. Step m (to_call k (done_call)) x n) (sym c.in-Head.is) refl e.steps;
     }
 
-pub returns-in_err-line-2 : goal.returns-in_err-line-2
-returns-in_err-line-2 g c =
+pub returns-in_err-line-in-Root : goal.returns-in_err-line-in-Root
+returns-in_err-line-in-Root g c =
     let m = model_of g.H.Controller g.A.Stage g.B.Stage c.args.self.now in
     let n = model_of g.H.Controller g.A.Stage g.B.Stage c.done_at_root.new.self in
-    let e = c.in_err-line-2.ensures in
+    let e = c.in_err-line-in-Root.ensures in
     record {
       keeps = e.keeps;
-      steps = subst₂ (λ k x. Step m (to_call k (done_call)) x n) (sym c.in-Root.is) (sym (carried done_answer c.from_residual-in_err-line-2.result _ c.from_residual-in_err-line-2.ensures.1)) e.steps;
+      steps = subst₂ (λ k x. Step m (to_call k (done_call)) x n) (sym c.in-Root.is) (sym (carried done_answer c.from_residual-in_err-line-in-Root.result _ c.from_residual-in_err-line-in-Root.ensures.1)) e.steps;
     }
 
-pub returns-in_ok-line-2 : goal.returns-in_ok-line-2
-returns-in_ok-line-2 g c =
+pub returns-in_ok-line-in-Root : goal.returns-in_ok-line-in-Root
+returns-in_ok-line-in-Root g c =
     let m = model_of g.H.Controller g.A.Stage g.B.Stage c.args.self.now in
     let n = model_of g.H.Controller g.A.Stage g.B.Stage c.done_at_root.new.self in
-    let e = c.in_ok-line-2.ensures in
+    let e = c.in_ok-line-in-Root.ensures in
     record {
       keeps = e.keeps;
       steps = subst₂ (λ k x. Step m (to_call k (done_call)) x n) (sym c.in-Root.is) refl e.steps;
