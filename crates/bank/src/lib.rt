@@ -1,4 +1,6 @@
 // Controllers that keep their sets of lines in registers.
+#![tactic(auto)]
+
 mod bank;
 mod registers;
 

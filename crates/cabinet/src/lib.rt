@@ -1,5 +1,7 @@
 // The machine of the cabinet: an optimistic layer on an 8259 pair, the head's stage on a pending log and the root's stage on an
 // optimistic layer on a pending log.
+#![tactic(auto)]
+
 ghost use Rattle.std.specs.Prelude.{◌≡◌, length, IfOk};
 ghost use Rattle.cabinet.specs.Fresh.{cabinet, Plays};
 

@@ -1,4 +1,6 @@
 // Plays a short list of calls on the cabinet's machine, and prints each call with its answer.
+#![tactic(auto)]
+
 use controller::Raised;
 use lines::LineSet;
 use machine::{Machine, run};

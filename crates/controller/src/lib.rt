@@ -1,4 +1,6 @@
 // An interrupt controller by what it tells, and the picking of its first line.
+#![tactic(auto)]
+
 mod fault;
 mod interface;
 mod number;

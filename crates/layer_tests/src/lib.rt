@@ -1,4 +1,6 @@
 // The layers played over the register controllers, alone and one upon another.
+#![tactic(auto)]
+
 #[cfg(test)]
 mod tests {
     use bank::Registers;

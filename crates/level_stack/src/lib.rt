@@ -1,4 +1,6 @@
 // A stack of levels over places that its caller lends.
+#![tactic(auto)]
+
 mod fault;
 mod number;
 mod stack;

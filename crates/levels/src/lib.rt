@@ -1,4 +1,6 @@
 // Levels of interrupt lines and their order.
+#![tactic(auto)]
+
 ghost use Rattle.std.specs.Prelude.{◌≡◌, ℕ, ◌<◌, Bool, true, false, nat_lt};
 ghost use Rattle.levels.specs.Kinds.{code, Coded, pair_above};
 ghost use Rattle.std.proofs.Common.{rules};

@@ -1,4 +1,6 @@
 // The lines of a listing, written into a caller's buffer.
+#![tactic(auto)]
+
 mod listed;
 mod number;
 mod put;

@@ -1,4 +1,6 @@
 // The interrupt machine: a hardware controller and the stages of two kernels behind one pipeline.
+#![tactic(auto)]
+
 mod arrive;
 mod calls;
 mod machine;

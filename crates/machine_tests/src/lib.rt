@@ -1,4 +1,6 @@
 // Examples played on the cabinet's machine.
+#![tactic(auto)]
+
 #[cfg(test)]
 mod tests {
     use controller::{Controller, Raised};

@@ -1,4 +1,6 @@
 // What a machine of kernels behind one interrupt pipeline means, and what holds of its whole runs.
+#![tactic(auto)]
+
 mod calls;
 mod promises;
 mod shown;

@@ -1,4 +1,6 @@
 // Examples played on the 8259 pair.
+#![tactic(auto)]
+
 #[cfg(test)]
 mod tests {
     use bank::Registers;

@@ -1,5 +1,5 @@
 -- The whole lines of a text, played one after another.
-use Rattle.std.proofs.Common.{◌≡◌, ℕ, ◌+◌, ◌-◌, ◌<◌, ◌≤◌, Bool, List, [], ◌∷◌, ◌++◌, length, drop, IfOk, Ok, Err, Result, sym, refl, ap, ◌∙◌, subst, append_assoc, append-nil, arith, length-drop, Bor, MutBor}
+use Rattle.std.proofs.Common.{◌≡◌, ℕ, ◌+◌, ◌-◌, ◌<◌, ◌≤◌, Bool, List, [], ◌∷◌, ◌++◌, length, drop, IfOk, Ok, Err, Result, sym, refl, ap, ◌∙◌, subst, append_assoc, append-nil, arith, length-drop, MutBor}
 use Rattle.std.proofs.lemmas.List.{drop-drop}
 use Rattle.levels.specs.declared.Class.{Class}
 use Rattle.levels.specs.declared.BsdLevel.{BsdLevel}
@@ -39,7 +39,7 @@ so_far_more head head₁ head₂ root root₁ root₂ on on₁ on₂ s s₁ s₂
     }
 
 -- and once no whole line is left
-pub so_far_all : (head head₁ : Bor (List Class)) (root root₁ : Bor (List BsdLevel)) (on on₁ : Bool) (s s₁ : Traced) (text xs ys rest : List ℕ) (n : ℕ)
+pub so_far_all : (head head₁ : MutBor (List Class)) (root root₁ : MutBor (List BsdLevel)) (on on₁ : Bool) (s s₁ : Traced) (text xs ys rest : List ℕ) (n : ℕ)
     → SoFar head root on s text xs n head₁ root₁ on₁ s₁ ys → rest ≡ drop n text → NoWholeLine rest
     → PlaysLines on s (whole_lines text) xs on₁ s₁ ys × (n ≤ length text) × (drop n text ≡ begun text)
 so_far_all head head₁ root root₁ on on₁ s s₁ text xs ys rest n h e c =

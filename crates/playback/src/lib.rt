@@ -1,4 +1,6 @@
 // A trace played on the machine of the cabinet: a line at a time, in blocks of any size, or whole.
+#![tactic(auto)]
+
 mod feed;
 mod play;
 mod playback;

@@ -1,4 +1,6 @@
 // Traces replayed whole, and in blocks.
+#![tactic(auto)]
+
 #[cfg(test)]
 mod tests {
     use level_stack::LevelStack;

@@ -1,4 +1,6 @@
 // Replays an interrupt trace on the machine of the cabinet: standard input is the trace, its listing goes to standard output.
+#![tactic(auto)]
+
 use anyhow::anyhow;
 use level_stack::LevelStack;
 use levels::{BsdLevel, Class};

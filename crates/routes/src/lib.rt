@@ -1,4 +1,6 @@
 // The routes of the hardware's lines, as sets of them.
+#![tactic(auto)]
+
 ghost use Rattle.std.specs.Prelude.{◌≡◌};
 ghost use Rattle.lines.specs.Sets.{common};
 ghost use Rattle.model.specs.declared.calls.Kernel.TheVariants.{Head as head, Root as root};

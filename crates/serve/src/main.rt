@@ -1,4 +1,6 @@
 // Serves a burst of requests on a controller and prints what it did.
+#![tactic(auto)]
+
 use bank::Registers;
 use controller::{Controller, ControllerFault, Raised};
 use levels::Level;

@@ -1,4 +1,6 @@
 // A kernel's stage of the interrupt pipeline.
+#![tactic(auto)]
+
 mod ahead;
 mod arrive;
 mod layers;

@@ -1,4 +1,6 @@
 // A trace: each line is read, obeyed by the machine and its stacks of saved levels, and listed.
+#![tactic(auto)]
+
 mod play;
 mod session;
 mod setup;

@@ -1,4 +1,6 @@
 // The lines of a trace: a text cut into lines, and what a line says.
+#![tactic(auto)]
+
 mod commands;
 mod cut;
 mod number;
