@@ -1,11 +1,11 @@
 -- What a controller does by picking from its registers.
-use Rattle.std.proofs.Common.{◌≡◌, ℕ, ◌<◌, Bool, true, false, cond, not, ◌&&◌, Some, None, Ok, Err, Option, sym, refl, ap, ◌∙◌, subst}
-use Rattle.lines.specs.Sets.{has, common, minus, Within}
+use Rattle.std.proofs.Common.{◌≡◌, ℕ, Bool, true, cond, Some, None, Ok, Err, refl, ap, ◌∙◌}
+use Rattle.lines.specs.Sets.{has, minus, Within}
 use Rattle.lines.proofs.Laws.{has_none}
 use Rattle.lines.proofs.Algebra.{in_minus, minus_in, empty_from, common_within}
 use Rattle.controller.specs.declared.fault.Raised.TheVariants.{New, Merged}
 use Rattle.controller.specs.declared.fault.ControllerFault.TheVariants.{NothingInService}
-use Rattle.controller.specs.View.{View, Sound, First, ahead_by, Deliverable, Serving, raised, set_masked, taken, ended}
+use Rattle.controller.specs.View.{View, Sound, ahead_by, Deliverable, set_masked}
 use Rattle.controller.specs.Calls.{Raises, Masks, Takes, Ends}
 use Rattle.controller.specs.Picks.{Picks, Over}
 use Rattle.bank.specs.Contents.{Contents, bank_view, latched, mask_written, acknowledged, retired}

@@ -1,11 +1,11 @@
 -- Each call of a controller leaves a sound view sound.
-use Rattle.std.proofs.Common.{◌≡◌, ℕ, ◌<◌, Bool, true, false, not, ◌&&◌, ◌||◌, eqb, ◌⊎◌, Some, None, Ok, Err, Option, Result, sym, refl, ap, ◌∙◌, subst, inl, inr, ⊎_elim, arith}
+use Rattle.std.proofs.Common.{◌≡◌, ℕ, ◌<◌, Bool, true, ◌⊎◌, Some, None, Ok, Err, Option, Result, sym, ◌∙◌, subst, inl, inr, ⊎_elim}
 use Rattle.std.proofs.lemmas.Bool.{both_ways, or_cases, and_parts, eqb-true}
 use Rattle.lines.specs.Sets.{has, union, minus, only, Within}
 use Rattle.lines.proofs.Laws.{has-union, has-minus, has-only, has_none}
 use Rattle.controller.specs.declared.fault.ControllerFault.{ControllerFault}
 use Rattle.controller.specs.declared.fault.Raised.{Raised}
-use Rattle.controller.specs.View.{View, WeakOrder, Sound, First, Deliverable, raised, taken, ended, set_pending, set_masked, set_blocked, fresh}
+use Rattle.controller.specs.View.{View, WeakOrder, Sound, Deliverable, raised, taken, ended, set_pending, set_masked, set_blocked, fresh}
 use Rattle.controller.specs.Calls.{Raises, Masks, Takes, Ends}
 
 -- a line of a set with one line more is of the set, or is that line

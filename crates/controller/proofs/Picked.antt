@@ -1,11 +1,11 @@
 -- Picking the first line, one line after another.
-use Rattle.std.proofs.Common.{◌≡◌, ℕ, ◌<◌, Bool, true, false, cond, not, ◌&&◌, eqb, ◌⊎◌, Some, None, Option, sym, refl, ap, ◌∙◌, subst, inl, inr, ⊎_elim, arith}
+use Rattle.std.proofs.Common.{◌≡◌, ℕ, Bool, true, false, cond, ◌⊎◌, Some, None, Option, sym, refl, subst, inl, inr, arith}
 use Rattle.std.proofs.lemmas.Bool.{both_ways, cases_eq}
 use Rattle.std.proofs.lemmas.Bool.Decides.{nat_tests}
 use Rattle.lines.specs.Sets.{has, minus, only, Within}
 use Rattle.lines.proofs.Laws.{has-minus, has-only, has_none}
 use Rattle.controller.specs.View.{First}
-use Rattle.controller.specs.Picks.{Picks, Over, winner}
+use Rattle.controller.specs.Picks.{Picks, winner}
 use Rattle.controller.proofs.Order.{LineOrder}
 
 -- line n of s has been seen: it is not in the rest r

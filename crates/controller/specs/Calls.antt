@@ -1,5 +1,5 @@
 -- The calls of a controller, each as a relation of the view before, what is given, the answer and the view after.
-use Rattle.std.specs.Prelude.{◌≡◌, ℕ, Bool, true, false, cond, Some, None, Ok, Err, Option, Result}
+use Rattle.std.specs.Prelude.{◌≡◌, ℕ, true, false, cond, Some, None, Ok, Err, Option, Result}
 use Rattle.lines.specs.Sets.{has, Within}
 use Rattle.controller.specs.declared.fault.ControllerFault.{ControllerFault}
 use Rattle.controller.specs.declared.fault.ControllerFault.TheVariants.{NoSuchLine, MaskOutside, NothingInService}

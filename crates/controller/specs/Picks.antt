@@ -1,5 +1,5 @@
 -- Picking a line of a set.
-use Rattle.std.specs.Prelude.{◌≡◌, ℕ, ◌<◌, Bool, true, false, cond, Some, None, Option}
+use Rattle.std.specs.Prelude.{◌≡◌, ℕ, Bool, true, cond, Some, None, Option}
 use Rattle.lines.specs.Sets.{has}
 use Rattle.controller.specs.View.{First}
 

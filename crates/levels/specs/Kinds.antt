@@ -1,5 +1,5 @@
 -- The kinds of levels, each by its order.
-use Rattle.std.specs.Prelude.{◌≡◌, ℕ, ◌≤◌, Bool, true, false, ◌&&◌, ◌||◌, Some, Option, ◌==◌, nat_lt}
+use Rattle.std.specs.Prelude.{◌≡◌, ℕ, ◌≤◌, Bool, ◌&&◌, ◌||◌, Some, Option, ◌==◌, nat_lt}
 use Rattle.std.specs.declared.option.Option.TheVariants as option
 use Rattle.levels.specs.declared.BsdLevel.{BsdLevel}
 use Rattle.levels.specs.declared.BsdLevel.TheVariants.{None, SoftClock, SoftNet, Bio, Net, Tty, Clock, High}

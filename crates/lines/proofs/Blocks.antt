@@ -1,5 +1,5 @@
 -- The bits of a number in two parts.
-use Rattle.std.proofs.Common.{◌≡◌, ℕ, zero, suc, ◌+◌, ◌*◌, ◌/◌, ◌%◌, ◌^◌, ◌<◌, sym, refl, ap, ◌∙◌, arith}
+use Rattle.std.proofs.Common.{◌≡◌, ℕ, zero, suc, ◌+◌, ◌*◌, ◌/◌, ◌^◌, ◌<◌, sym, ap, ◌∙◌, arith}
 use lib.Bits.{block_half, block_odd}
 use Rattle.std.proofs.lemmas.Nat.{shr-shr, shr_high}
 use Rattle.lines.specs.Sets.{has}

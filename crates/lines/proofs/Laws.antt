@@ -1,11 +1,11 @@
 -- The laws of sets of lines: what each operation has, and that a set is known by its lines.
-use Rattle.std.proofs.Common.{◌≡◌, ℕ, zero, suc, ◌+◌, ◌-◌, ◌*◌, ◌/◌, ◌%◌, ◌^◌, ◌<◌, ◌≤◌, min, max, Bool, true, false, not, ◌&&◌, ◌||◌, eqb, ltb, ◌⊎◌, sym, refl, ap, ◌∙◌, subst, inl, inr, ⊎_elim, pow-suc, div-one, arith, pow_mono}
+use Rattle.std.proofs.Common.{◌≡◌, ℕ, zero, suc, ◌+◌, ◌-◌, ◌/◌, ◌%◌, ◌^◌, ◌<◌, ◌≤◌, Bool, true, false, not, ◌&&◌, ◌||◌, eqb, ◌⊎◌, sym, refl, ap, ◌∙◌, subst, inl, inr, div-one, arith, pow_mono}
 use native.Mathlib.Nat.{zero-div, div_self, div-eq_of_lt}
 use lib.Bits.{bit_and, bit_or, bit_xor, and_shr, or_shr, xor_shr, and_mod, or_mod, xor_mod}
 use Rattle.std.proofs.lemmas.Nat.{pow_pos, shr-shr, pow_below, shl-shr, pow-add}
 use Rattle.std.proofs.lemmas.Bool.Decides.{nat_tests}
-use Rattle.std.proofs.lemmas.Bool.{eqb-true, eqb-false, eq-eqb, ne_eqb, cases_order, cases_lt, both_ways}
-use Rattle.lines.specs.Sets.{has, union, common, minus, only, Within}
+use Rattle.std.proofs.lemmas.Bool.{eq-eqb, ne_eqb, cases_order, cases_lt, both_ways}
+use Rattle.lines.specs.Sets.{has, union, common, minus, only}
 
 -- a bit is 0 or 1
 pub bit_two : (x : ℕ) → (x % 2 ≡ 0) ⊎ (x % 2 ≡ 1)

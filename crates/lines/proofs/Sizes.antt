@@ -1,10 +1,9 @@
 -- How many lines a set has.
-use Rattle.std.proofs.Common.{◌≡◌, ℕ, zero, suc, ◌+◌, ◌-◌, ◌*◌, ◌/◌, ◌%◌, ◌^◌, ◌<◌, ◌≤◌, Bool, true, false, not, ◌&&◌, ◌||◌, eqb, ◌⊎◌, sym, refl, ap, ◌∙◌, subst, ap₂, inl, inr, arith}
+use Rattle.std.proofs.Common.{◌≡◌, ℕ, zero, suc, ◌+◌, ◌-◌, ◌/◌, ◌%◌, ◌^◌, ◌<◌, ◌≤◌, true, false, sym, refl, ap, ◌∙◌, arith}
 use lib.Count.{ones, ones_step, ones-ones}
 use Rattle.std.proofs.lemmas.Bool.Decides.{nat_tests}
-use Rattle.std.proofs.lemmas.Bool.{both_ways}
 use Rattle.lines.specs.Sets.{has, union, minus, only, size, Within}
-use Rattle.lines.proofs.Laws.{ext, has-suc, has-zero, has-union, has-minus, has-only, has_none, has_ones}
+use Rattle.lines.proofs.Laws.{ext, has-suc, has-zero, has-union, has-minus, has-only, has_ones}
 use Rattle.lines.proofs.Algebra.{back}
 
 pub size_none : size 0 ≡ 0

@@ -1,5 +1,5 @@
 -- Words put into a buffer one after another.
-use Rattle.std.proofs.Common.{◌≡◌, ℕ, ◌+◌, ◌-◌, ◌/◌, ◌%◌, ◌^◌, ◌<◌, ◌≤◌, true, false, cond, eqb, leb, List, [], ◌∷◌, ◌++◌, map, length, get_or, take, drop, set, sym, refl, ap, ◌∙◌, ⊎_elim, append_assoc, mod-eq_of_lt, arith, length-append, length-drop, length-take, rules, ne_eqb}
+use Rattle.std.proofs.Common.{◌≡◌, ℕ, ◌+◌, ◌-◌, ◌/◌, ◌%◌, ◌^◌, ◌<◌, ◌≤◌, true, false, cond, eqb, leb, List, [], ◌∷◌, ◌++◌, map, length, drop, set, sym, ap, ◌∙◌, ⊎_elim, append_assoc, mod-eq_of_lt, arith, length-append, length-drop, length-take, rules, ne_eqb}
 use native.Mathlib.Nat.{div-eq_of_lt}
 use borrow.Rule.Slice.PartMut.{put_mid}
 use Rattle.std.proofs.lemmas.List.{same_lists, places, get_or-set_same, map-append, length-map}

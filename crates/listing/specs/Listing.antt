@@ -2,7 +2,6 @@
 use Rattle.std.specs.Prelude.{◌≡◌, ℕ, ◌+◌, ◌<◌, ◌≤◌, Bool, true, false, cond, List, [], ◌∷◌, ◌++◌, length, take, drop, Some, None, Ok, Err, codes, Result, nat_le}
 use Rattle.controller.specs.declared.fault.Raised.TheVariants.{New, Merged}
 use Rattle.model.specs.declared.calls.Kernel.TheVariants.{Head, Root}
-use Rattle.model.specs.declared.calls.Place.{Place}
 use Rattle.model.specs.declared.calls.Place.TheVariants.{Hardware, Kernel}
 use Rattle.model.specs.declared.calls.Answer.{Answer}
 use Rattle.model.specs.declared.calls.Answer.TheVariants.{Raised, Masked, Arrived, Delivered, Held, Busy, Ended, WasStalled, WasAtLevel, Told}

@@ -6,7 +6,6 @@ use Rattle.lines.specs.declared.line_set.LineSet.{LineSet}
 use Rattle.controller.specs.View.{Sound, Deliverable, ahead, taken, ended}
 use Rattle.controller.specs.Calls.{Raises, Masks, Takes, Ends}
 use Rattle.controller.proofs.Order.{order_of, first_same}
-use Rattle.model.specs.declared.calls.Place.TheVariants.{Hardware as hardware}
 use Rattle.model.specs.declared.calls.Answer.TheVariants.{Arrived as arrived}
 use Rattle.model.specs.Arrivals.{Arrivals, SetOf}
 use Rattle.model.specs.Machine.{MachineModel, Pumps, pumped, pump_says, set_of}

@@ -1,5 +1,5 @@
 -- Two chips as one set of lines.
-use Rattle.std.specs.Prelude.{◌≡◌, ℕ, ◌+◌, ◌*◌, Bool, true, false, not, ◌==◌}
+use Rattle.std.specs.Prelude.{◌≡◌, ℕ, ◌+◌, ◌*◌, not, ◌==◌}
 use Rattle.lines.specs.Sets.{has, minus, only}
 
 -- the master's inputs but 2 are lines 0 to 7, and the slave's are lines 8 to 15

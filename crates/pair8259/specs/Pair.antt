@@ -1,5 +1,5 @@
 -- The lines of the pair and their levels in special fully nested mode, and what its registers hold.
-use Rattle.std.specs.Prelude.{◌≡◌, ℕ, ◌-◌, Bool, true, false, cond, nat_lt}
+use Rattle.std.specs.Prelude.{ℕ, ◌-◌, Bool, cond, nat_lt}
 use Rattle.levels.specs.declared.PairLevel.{PairLevel}
 use Rattle.levels.specs.Kinds.{pair_above}
 use Rattle.bank.specs.Contents.{Contents}

@@ -1,6 +1,6 @@
 -- Routes as sets of lines.
 use Rattle.std.specs.Prelude.{Bool, cond, ℕ}
-use Rattle.lines.specs.Sets.{has, common, minus, only, with_line}
+use Rattle.lines.specs.Sets.{common, minus, only, with_line}
 use Rattle.model.specs.declared.calls.Kernel.{Kernel}
 use Rattle.model.specs.declared.calls.Kernel.TheVariants.{Head as head, Root as root}
 use Rattle.model.specs.Machine as model

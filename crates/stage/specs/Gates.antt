@@ -1,6 +1,6 @@
 -- What a stage means to the kernels behind it, and how a line arrives at one.
 use Rattle.std.specs.Prelude.{◌≡◌, ℕ, ◌<◌, ◌⊎◌, Some, None, Option}
-use Rattle.lines.specs.Sets.{has, union, common, only}
+use Rattle.lines.specs.Sets.{union, common, only}
 use Rattle.controller.specs.View.{View, First, Deliverable, Serving, ahead, set_pending}
 use Rattle.model.specs.Arrivals.{cleared}
 use Rattle.model.specs.Stage.{StageModel, told, set_own}

@@ -1,5 +1,5 @@
 -- Every line of a trace is listed in at most 20 bytes.
-use Rattle.std.proofs.Common.{◌≡◌, ℕ, ◌<◌, ◌≤◌, Bool, true, false, cond, List, length, Ok, Err, Option, Result, sym, refl, ap, ◌∙◌, subst, ⊎_elim, arith}
+use Rattle.std.proofs.Common.{◌≡◌, ℕ, ◌≤◌, Bool, true, false, cond, List, length, Ok, Err, Option, Result, refl, ap, ◌∙◌, ⊎_elim, arith}
 use Rattle.std.proofs.lemmas.Bool.{le-leb}
 use Rattle.lines.specs.Sets.{size}
 use Rattle.controller.specs.declared.fault.ControllerFault.{ControllerFault}
@@ -15,7 +15,6 @@ use Rattle.model.specs.declared.calls.Call.{Call}
 use Rattle.model.specs.declared.calls.Call.TheVariants as call
 use Rattle.model.specs.declared.calls.Answer.{Answer}
 use Rattle.model.specs.Machine.{MachineModel, Step, StageStep, Nexts, Pumps, raise_says, mask_says, done_says, level_says, pump_says}
-use Rattle.trace_lines.specs.declared.commands.TextFault.{TextFault}
 use Rattle.trace_lines.specs.declared.commands.Setup.{Setup}
 use Rattle.trace_lines.specs.declared.commands.Setup.TheVariants.{Route, Start}
 use Rattle.trace_lines.specs.declared.commands.Command.{Command}

@@ -1,5 +1,5 @@
 -- What a command of a running machine answers and leaves.
-use Rattle.std.specs.Prelude.{◌≡◌, ℕ, ◌+◌, ◌-◌, ◌<◌, true, List, length, set, Some, None, Ok, Err, Option, Result, ◌≢◌, slice_set}
+use Rattle.std.specs.Prelude.{◌≡◌, ℕ, ◌+◌, ◌-◌, ◌<◌, true, List, length, Some, None, Ok, Err, Option, Result, ◌≢◌, slice_set}
 use Rattle.spl.specs.declared.fault.LevelFault.TheVariants.{NoSuchLevel}
 use Rattle.model.specs.declared.calls.Kernel.{Kernel}
 use Rattle.model.specs.declared.calls.Place.TheVariants.{Kernel as kernel}

@@ -1,7 +1,7 @@
 -- The whole lines of a text, and the one that has begun.
-use Rattle.std.proofs.Common.{◌≡◌, ℕ, suc, ◌+◌, ◌<◌, ◌≤◌, Bool, true, false, cond, not, eqb, List, [], ◌∷◌, ◌++◌, length, take, drop, sym, refl, ap, ◌∙◌, subst, ap₂, inl, inr, add-one, one-add, arith, length-take}
+use Rattle.std.proofs.Common.{◌≡◌, ℕ, ◌+◌, ◌<◌, ◌≤◌, true, false, cond, not, eqb, List, [], ◌∷◌, ◌++◌, length, take, drop, sym, refl, ap, ◌∙◌, subst, ap₂, inl, inr, add-one, one-add, arith, length-take}
 use Rattle.std.proofs.lemmas.Bool.{cases_Bool}
-use Rattle.trace_lines.specs.Cut.{before_first, lines_of, onto_first, whole_lines, before_begun, begun, last_line, LinesAre, CutAnywhere, FirstWholeLine, NoWholeLine, ordinary, line_length}
+use Rattle.trace_lines.specs.Cut.{before_first, lines_of, onto_first, whole_lines, before_begun, begun, last_line, LinesAre, CutAnywhere, FirstWholeLine, NoWholeLine, line_length}
 
 -- ---- the lines are the whole ones and the one that has begun
 

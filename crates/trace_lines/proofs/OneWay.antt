@@ -1,7 +1,6 @@
 -- A line is read in one way.
-use Rattle.std.proofs.Common.{◌≡◌, ℕ, Bool, true, false, List, Some, Ok, Err, Option, Result, sym, refl, ap, ◌∙◌, subst, ⊎_elim, arith}
+use Rattle.std.proofs.Common.{◌≡◌, ℕ, Bool, true, false, List, Some, Ok, Err, Option, sym, refl, ap, ◌∙◌, ⊎_elim, arith}
 use Rattle.std.proofs.lemmas.Bool.{both_ways}
-use Rattle.trace_lines.specs.declared.commands.TextFault.{TextFault}
 use Rattle.trace_lines.specs.declared.commands.TextFault.TheVariants.{Form, Range}
 use Rattle.trace_lines.specs.declared.commands.Setup.{Setup}
 use Rattle.trace_lines.specs.declared.commands.Setup.TheVariants.{Route, Start}

@@ -1,7 +1,7 @@
 -- One more digit of a numeral.
-use Rattle.std.proofs.Common.{◌≡◌, ℕ, suc, ◌+◌, ◌*◌, ◌^◌, ◌<◌, ◌≤◌, true, false, cond, ◌&&◌, ltb, leb, List, ◌∷◌, length, get_or, drop, Some, None, sym, refl, ap, ◌∙◌, add-mul, mul-le-mul, one-mul, pow-suc, add-one, arith, le-ltb, lt-ltb, le-leb}
+use Rattle.std.proofs.Common.{◌≡◌, ℕ, ◌+◌, ◌*◌, ◌^◌, ◌<◌, ◌≤◌, true, false, cond, ◌&&◌, ltb, leb, List, length, get_or, drop, None, sym, ap, ◌∙◌, add-mul, mul-le-mul, one-mul, pow-suc, add-one, arith, le-ltb, lt-ltb, le-leb}
 use native.Mathlib.Nat.{pow-le-pow_right}
-use Rattle.std.proofs.lemmas.List.{at_drop_more, at_drop_all}
+use Rattle.std.proofs.lemmas.List.{at_drop_more}
 use Rattle.trace_lines.specs.Numerals.{digit_value, number_after, numeral}
 
 pub grows : (n b d i : ℕ) → n < 16 ^ i → b ≤ 16 → d < b → n * b + d < 16 ^ (i + 1)

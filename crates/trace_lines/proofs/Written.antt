@@ -1,12 +1,11 @@
 -- The form found of a line byte by byte is the one that the grammar gives it.
-use Rattle.std.proofs.Common.{◌≡◌, ℕ, ◌-◌, ◌<◌, ◌≤◌, Bool, true, false, cond, ◌&&◌, eqb, leb, ◌⊎◌, List, [], ◌∷◌, ◌++◌, length, get_or, take, drop, Some, None, Ok, Err, Option, Result, sym, refl, ap, ◌∙◌, subst, inl, inr, ⊎_elim, arith}
+use Rattle.std.proofs.Common.{◌≡◌, ℕ, ◌-◌, ◌≤◌, Bool, true, false, cond, ◌&&◌, eqb, leb, ◌⊎◌, List, [], ◌∷◌, ◌++◌, length, get_or, take, drop, Some, None, Ok, Err, Option, sym, refl, ap, ◌∙◌, subst, inl, inr, ⊎_elim, arith}
 use Rattle.std.proofs.lemmas.List.{take_all}
 use Rattle.std.proofs.lemmas.Bool.{le-leb, and_parts, eqb-true, cond_both}
 use Rattle.lines.specs.declared.line_set.LineSet.{LineSet}
 use Rattle.model.specs.declared.calls.Kernel.{Kernel}
 use Rattle.model.specs.declared.calls.Kernel.TheVariants.{Head, Root}
-use Rattle.trace_lines.specs.declared.commands.TextFault.{TextFault}
-use Rattle.trace_lines.specs.declared.commands.TextFault.TheVariants.{Form, Range}
+use Rattle.trace_lines.specs.declared.commands.TextFault.TheVariants.{Range}
 use Rattle.trace_lines.specs.declared.commands.Command.{Command}
 use Rattle.trace_lines.specs.declared.commands.Command.TheVariants.{Raise, MaskHardware, Mask, Pump, Next, Done, Stall, Unstall, SetLevel, RestoreLevel}
 use Rattle.trace_lines.specs.Numerals.{numeral}

@@ -1,9 +1,9 @@
-use Rattle.std.proofs.Common.{◌≡◌, true, sym, ap, ◌∙◌, subst}
+use Rattle.std.proofs.Common.{◌≡◌, true, ap, ◌∙◌, subst}
 use Rattle.lines.specs.Sets.{has}
 use Rattle.controller.specs.View.{ahead_by}
 use Rattle.controller.specs.Picks.{Picks}
 use Rattle.controller.proofs.Order.{weak_of, order_by}
-use Rattle.controller.proofs.Picked.{Seen, picks_none, picks_more, picks_all, rest_in}
+use Rattle.controller.proofs.Picked.{picks_none, picks_more, picks_all, rest_in}
 use Rattle.controller.proofs.pick.first_of.Goals as goal
 
 pub loop-line-init : goal.loop-line-init

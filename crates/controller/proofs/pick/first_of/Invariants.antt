@@ -1,4 +1,3 @@
-use Rattle.std.proofs.Common.{true}
 use Rattle.lines.specs.Sets.{Within}
 use Rattle.controller.specs.View.{ahead_by}
 use Rattle.controller.specs.Picks.{Picks}

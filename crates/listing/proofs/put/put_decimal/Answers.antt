@@ -1,4 +1,4 @@
-use Rattle.std.proofs.Common.{arith, rules}
+use Rattle.std.proofs.Common.{arith}
 use Rattle.listing.proofs.Puts.{length-decimal}
 use Rattle.listing.proofs.put.put_decimal.Goals as goal
 

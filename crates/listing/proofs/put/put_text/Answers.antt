@@ -1,4 +1,4 @@
-use Rattle.std.proofs.Common.{refl, ◌∙◌, arith}
+use Rattle.std.proofs.Common.{refl}
 use Rattle.listing.proofs.Puts.{put_part}
 use Rattle.listing.proofs.put.put_text.Goals as goal
 

@@ -1,4 +1,3 @@
-use Rattle.std.proofs.Common.{◌∙◌}
 use Rattle.pair8259.specs.Chips.{joined}
 use Rattle.pair8259.proofs.bytes.joined.Goals as goal
 

@@ -1,4 +1,4 @@
-use Rattle.std.proofs.Common.{◌≡◌, Ok, refl}
+use Rattle.std.proofs.Common.{Ok, refl}
 use Rattle.controller.specs.Calls.{Ends}
 use Rattle.controller.proofs.Keeps.{ends_sound}
 use Rattle.bank.specs.Contents.{bank_view}

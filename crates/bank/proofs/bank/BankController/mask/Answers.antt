@@ -1,4 +1,4 @@
-use Rattle.std.proofs.Common.{◌≡◌, true, Ok, refl}
+use Rattle.std.proofs.Common.{Ok, refl}
 use Rattle.controller.specs.Calls.{Masks}
 use Rattle.controller.proofs.Keeps.{masks_sound}
 use Rattle.bank.specs.Contents.{bank_view}

@@ -1,6 +1,5 @@
 use Rattle.std.proofs.Common.{◌≡◌, cond, Ok, sym, refl, ap, ◌∙◌, subst}
 use Rattle.lines.specs.Sets.{has}
-use Rattle.controller.specs.declared.fault.Raised.{Raised}
 use Rattle.controller.specs.declared.fault.Raised.TheVariants.{New, Merged}
 use Rattle.controller.specs.Calls.{Raises}
 use Rattle.controller.proofs.Keeps.{raises_sound}

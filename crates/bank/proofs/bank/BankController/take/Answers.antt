@@ -1,4 +1,4 @@
-use Rattle.std.proofs.Common.{◌≡◌, Some, None, sym, refl, subst}
+use Rattle.std.proofs.Common.{Some, sym, refl, subst}
 use Rattle.controller.specs.Calls.{Takes}
 use Rattle.controller.proofs.Keeps.{takes_sound}
 use Rattle.bank.specs.Contents.{bank_view}

@@ -1,4 +1,4 @@
-use Rattle.std.proofs.Common.{◌≡◌, ℕ, ◌<◌, IfSome, Some, None, Option, sym, arith, rules}
+use Rattle.std.proofs.Common.{ℕ, ◌<◌, IfSome, Some, None, Option, arith, rules}
 use Rattle.lines.specs.Sets.{Pops, size}
 use Rattle.lines.proofs.Sizes.{size_out}
 use Rattle.lines.proofs.line_set.LinesIterator.next.Goals as goal
