@@ -132,11 +132,17 @@ mod tests {
     #[test]
     fn a_trace_is_cut_anywhere(rt: HostRuntime) -> Result<(), Fail> {
         let heap = rt.alloc();
-        assert!(rt; in_blocks(heap, b"b\ni ", b"3\np 1")?.as_slice() == b"ok\nnew\n1 8\n");
-        assert!(rt; in_blocks(heap, b"b", b"\ni 3\n")?.as_slice() == b"ok\nnew\n");
-        assert!(rt; in_blocks(heap, b"b\n", b"i 3\n")?.as_slice() == b"ok\nnew\n");
-        assert!(rt; in_blocks(heap, &[b'b'; 81], &[b'b'; 100])?.as_slice() == b"! 8 t\n");
-        assert!(rt; in_blocks(heap, &[b' '; 200], b"\nb\n")?.as_slice() == b"! 8 t\nok\n");
+        assert!(rt;
+            in_blocks(heap, b"b\ni ", b"3\np 1")?.as_slice() == b"ok\nnew\n1 8\n".as_slice()
+        );
+        assert!(rt; in_blocks(heap, b"b", b"\ni 3\n")?.as_slice() == b"ok\nnew\n".as_slice());
+        assert!(rt; in_blocks(heap, b"b\n", b"i 3\n")?.as_slice() == b"ok\nnew\n".as_slice());
+        assert!(rt;
+            in_blocks(heap, &[b'b'; 81], &[b'b'; 100])?.as_slice() == b"! 8 t\n".as_slice()
+        );
+        assert!(rt;
+            in_blocks(heap, &[b' '; 200], b"\nb\n")?.as_slice() == b"! 8 t\nok\n".as_slice()
+        );
         Ok(())
     }
 
@@ -153,10 +159,10 @@ mod tests {
         let stepped = stepped
             .playback
             .step(&mut head, &mut root, b"b", &mut enough);
-        assert!(rt; matches!(stepped.written, Ok(3)) && &enough[0..4] == b"ok\n#");
+        assert!(rt; matches!(stepped.written, Ok(3)) && &enough[0..4] == b"ok\n#".as_slice());
         let stepped = stepped
             .playback
             .step(&mut head, &mut root, b"b", &mut enough);
-        assert!(rt; matches!(stepped.written, Ok(6)) && &enough[0..6] == b"! 8 t\n");
+        assert!(rt; matches!(stepped.written, Ok(6)) && &enough[0..6] == b"! 8 t\n".as_slice());
     }
 }
