@@ -2,8 +2,8 @@
 ghost use Rattle.std.specs.Prelude.{◌≡◌};
 ghost use Rattle.controller.specs.Calls.{Masks, Ends};
 ghost use Rattle.model.specs.declared.calls.Kernel.TheVariants.{Head as head, Root as root};
-ghost use Rattle.model.specs.declared.calls.StageCall.TheVariants.{Done as done_call, Mask as mask_call, Stall as stall-call, Unstall as unstall-call, SetLevel as level_call};
-ghost use Rattle.model.specs.declared.calls.Call.TheVariants.{Raise as raise-call, MaskHardware as hardware-call, Next as next_call, To as to_call, Ask as ask-call};
+ghost use Rattle.model.specs.declared.calls.StageCall.TheVariants.{Done as done_call, Mask as mask_call, Stall as stall_call, Unstall as unstall_call, SetLevel as level_call};
+ghost use Rattle.model.specs.declared.calls.Call.TheVariants.{Raise as raise_call, MaskHardware as hardware_call, Next as next_call, To as to_call, Ask as ask_call};
 ghost use Rattle.model.specs.declared.calls.Answer.TheVariants.{Delivered as delivered, WasStalled as was_stalled, Told as set_told};
 ghost use Rattle.model.specs.Stage.{Through};
 ghost use Rattle.model.specs.Machine.{Step, tells};
@@ -47,7 +47,7 @@ impl<H: Controller, A: Stage, B: Stage> Machine<Running, H, A, B> {
     pub fn raise(&mut self, line: u8) -> Result<Raised, MachineFault>
         requires { ConsistentOf H.Controller A.Stage B.Stage self.old }
         ensures keeps { ConsistentOf H.Controller A.Stage B.Stage self.new }
-        ensures steps { Step (model_of H.Controller A.Stage B.Stage self.old) (raise-call line) (raise_answer result) (model_of H.Controller A.Stage B.Stage self.new) }
+        ensures steps { Step (model_of H.Controller A.Stage B.Stage self.old) (raise_call line) (raise_answer result) (model_of H.Controller A.Stage B.Stage self.new) }
     {
         let raised = self.hardware.raise(line)?;
         Ok(raised)
@@ -59,7 +59,7 @@ impl<P: Asked, H: Controller, A: Stage, B: Stage> Machine<P, H, A, B> {
     // The lines of a place, or one of its four sets.
     pub fn ask(&self, place: Place, question: Question) -> LineSet
         requires { ConsistentOf H.Controller A.Stage B.Stage self.now }
-        ensures { Step (model_of H.Controller A.Stage B.Stage self.now) (ask-call place question) (set_told result) (model_of H.Controller A.Stage B.Stage self.now) }
+        ensures { Step (model_of H.Controller A.Stage B.Stage self.now) (ask_call place question) (set_told result) (model_of H.Controller A.Stage B.Stage self.now) }
     {
         match place {
             Place::Hardware => told_by(&self.hardware, question),
@@ -75,7 +75,7 @@ impl<P: Live, H: Controller, A: Stage, B: Stage> Machine<P, H, A, B> {
     pub fn mask_hardware(&mut self, set: LineSet) -> Result<(), MachineFault>
         requires { ConsistentOf H.Controller A.Stage B.Stage self.old }
         ensures keeps { ConsistentOf H.Controller A.Stage B.Stage self.new }
-        ensures steps { Step (model_of H.Controller A.Stage B.Stage self.old) (hardware-call set) (mask_answer result) (model_of H.Controller A.Stage B.Stage self.new) }
+        ensures steps { Step (model_of H.Controller A.Stage B.Stage self.old) (hardware_call set) (mask_answer result) (model_of H.Controller A.Stage B.Stage self.new) }
     {
         self.hardware.mask(set)?;
         Ok(())
@@ -190,7 +190,7 @@ impl<P: Live, H: Controller, A: Stage, B: Stage> Machine<P, H, A, B> {
     pub fn stall(&mut self, kernel: Kernel) -> bool
         requires { ConsistentOf H.Controller A.Stage B.Stage self.old }
         ensures keeps { ConsistentOf H.Controller A.Stage B.Stage self.new }
-        ensures steps { Step (model_of H.Controller A.Stage B.Stage self.old) (to_call kernel stall-call) (was_stalled result) (model_of H.Controller A.Stage B.Stage self.new) }
+        ensures steps { Step (model_of H.Controller A.Stage B.Stage self.old) (to_call kernel stall_call) (was_stalled result) (model_of H.Controller A.Stage B.Stage self.new) }
     {
         match kernel {
             Kernel::Head => self.head.stall(),
@@ -202,7 +202,7 @@ impl<P: Live, H: Controller, A: Stage, B: Stage> Machine<P, H, A, B> {
     pub fn unstall(&mut self, kernel: Kernel) -> bool
         requires { ConsistentOf H.Controller A.Stage B.Stage self.old }
         ensures keeps { ConsistentOf H.Controller A.Stage B.Stage self.new }
-        ensures steps { Step (model_of H.Controller A.Stage B.Stage self.old) (to_call kernel unstall-call) (was_stalled result) (model_of H.Controller A.Stage B.Stage self.new) }
+        ensures steps { Step (model_of H.Controller A.Stage B.Stage self.old) (to_call kernel unstall_call) (was_stalled result) (model_of H.Controller A.Stage B.Stage self.new) }
     {
         match kernel {
             Kernel::Head => self.head.unstall(),

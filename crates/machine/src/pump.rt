@@ -1,7 +1,7 @@
 // The pump: it moves lines from the hardware to the kernels.
 ghost use Rattle.std.specs.Prelude.{◌≡◌, ◌+◌, ◌<◌, nat_lt};
 ghost use Rattle.lines.specs.Sets.{with_line};
-ghost use Rattle.model.specs.declared.calls.Call.TheVariants.{Pump as pump-call};
+ghost use Rattle.model.specs.declared.calls.Call.TheVariants.{Pump as pump_call};
 ghost use Rattle.model.specs.Machine.{Answered, Pumps, pump_says, Step};
 ghost use Rattle.machine.specs.Whole.{model_of, ConsistentOf};
 ghost use Rattle.machine.specs.Answering.{pump_answer};
@@ -67,7 +67,7 @@ impl<P: Live, H: Controller, A: Stage, B: Stage> Machine<P, H, A, B> {
     pub fn pump(&mut self, n: u8) -> Result<Arrived, MachineFault>
         requires { ConsistentOf H.Controller A.Stage B.Stage self.old }
         ensures keeps { ConsistentOf H.Controller A.Stage B.Stage self.new }
-        ensures steps { Step (model_of H.Controller A.Stage B.Stage self.old) (pump-call n) (pump_answer result) (model_of H.Controller A.Stage B.Stage self.new) }
+        ensures steps { Step (model_of H.Controller A.Stage B.Stage self.old) (pump_call n) (pump_answer result) (model_of H.Controller A.Stage B.Stage self.new) }
     {
         self.pump_within(LIMIT, n)
     }

@@ -28,7 +28,7 @@ use Rattle.trace_calls.specs.Calls.{Levels}
 use Rattle.trace_commands.specs.Commands.{Traced}
 use Rattle.trace.specs.Lines.{with_routes, reroute, Reroutes, SetsUp, PlaysSetup, Plays}
 use Rattle.cabinet.specs.Fresh.{cabinet}
-use Rattle.playback.specs.States.{Hardware, HeadStage, RootStage, state, Laid_out, at_first}
+use Rattle.playback.specs.States.{Hardware, HeadStage, RootStage, state, IsLaidOut, at_first}
 use Rattle.playback.specs.Traces.{LineMakes, PlaysAll, PlaysLines, started_from, Replays}
 use Rattle.playback.proofs.Playing.{run_joined, run_routes}
 
@@ -132,7 +132,7 @@ replays_from_first on on' s s' trace xs listing a b e f p =
     replays at_first trace listing on' s' f (none_within all_lines) (common_right pair_lines all_lines)
     (subst (λ z. PlaysLines false at_first (lines_of trace) z on' s' listing) e (subst₂ (λ o z. PlaysLines o z (lines_of trace) xs on' s' listing) a b p))
 
-pub is_first : (s : Session Hardware HeadStage RootStage) (a : Levels Class) (b : Levels BsdLevel) → Laid_out s → a.places ≡ replicate 16 (record { 0 = 0 }) → a.used ≡ 0
+pub is_first : (s : Session Hardware HeadStage RootStage) (a : Levels Class) (b : Levels BsdLevel) → IsLaidOut s → a.places ≡ replicate 16 (record { 0 = 0 }) → a.used ≡ 0
     → b.places ≡ replicate 16 lowest_level → b.used ≡ 0 → state s a b ≡ at_first
 is_first s a b l p u q v =
     λ i. record { machine = l.machine i; at_head = record { places = p i; used = u i }; at_root = record { places = q i; used = v i } }

@@ -19,7 +19,7 @@ use Rattle.trace.specs.declared.session.Session.TheVariants.{LaidOut, Running}
 use Rattle.trace.specs.Sessions.{SessionConsistent}
 use Rattle.trace_commands.specs.Stages.{head_stage, root_stage}
 use Rattle.playback.specs.Parts.{pair, log, optimistic}
-use Rattle.playback.specs.States.{Hardware, HeadStage, RootStage, in_order}
+use Rattle.playback.specs.States.{Hardware, HeadStage, RootStage, IsInOrder}
 
 weak_order : (above : ℕ → ℕ → Bool) → IsProp (WeakOrder above)
 weak_order above x y =
@@ -86,5 +86,5 @@ session_single (LaidOut m) = ×₃_prop (consistent m) (within _ _) (within _ _)
 session_single (Running m) = consistent m
 
 -- so that the fact alone gives it
-pub is_consistent : (s : Session Hardware HeadStage RootStage) → in_order s → SessionConsistent (optimistic pair) (head_stage log) (root_stage (optimistic log)) s
+pub is_consistent : (s : Session Hardware HeadStage RootStage) → IsInOrder s → SessionConsistent (optimistic pair) (head_stage log) (root_stage (optimistic log)) s
 is_consistent s h = ∥∥₁_elim h (session_single s) (λ x. x)

@@ -37,8 +37,8 @@ abbrev pub RootStage : Type 0
 RootStage = Stall (Spl RootPolicy (Optimistic Log LogPlace) BsdLevel LogPlace) LogPlace
 
 -- the machine, laid out or running, is consistent; the bars say that only the fact counts, not how it was shown
-abbrev pub in_order : Session Hardware HeadStage RootStage → Type 0
-in_order s = ∥ SessionConsistent (optimistic pair) (head_stage log) (root_stage (optimistic log)) s ∥₁
+abbrev pub IsInOrder : Session Hardware HeadStage RootStage → Type 0
+IsInOrder s = ∥ SessionConsistent (optimistic pair) (head_stage log) (root_stage (optimistic log)) s ∥₁
 
 -- the machine by the rules
 abbrev pub machine_of : Session Hardware HeadStage RootStage → MachineModel
@@ -49,7 +49,7 @@ abbrev pub state : Session Hardware HeadStage RootStage → Levels Class → Lev
 state s a b = traced (machine_of s) a b
 
 -- the cabinet's machine as it is laid out, with no route set
-pub record Laid_out (s : Session Hardware HeadStage RootStage) : Type 0 where
+pub record IsLaidOut (s : Session Hardware HeadStage RootStage) : Type 0 where
   pub off : has_started s ≡ false
   pub machine : machine_of s ≡ cabinet
   pub fresh : Fresh cabinet

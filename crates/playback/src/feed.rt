@@ -2,7 +2,7 @@
 ghost use Rattle.std.specs.Prelude.{◌≡◌, ℕ, ◌-◌, ◌≤◌, min, [], ◌++◌, length, take, IfOk, vec_len, OnOk};
 ghost use Rattle.trace_commands.specs.Commands.{levels_in};
 ghost use Rattle.trace.specs.Sessions.{has_started};
-ghost use Rattle.playback.specs.States.{state, Laid_out};
+ghost use Rattle.playback.specs.States.{state, IsLaidOut};
 ghost use Rattle.playback.specs.Blocks.{Feeds, Finishes, BlocksJoin, BlockIsText};
 
 use crate::{Playback, PlayedLines, Stream};
@@ -31,7 +31,7 @@ fn keep(begun: &mut Vec<u8>, part: &[u8]) -> Result<(), AllocError>
 impl Stream {
     // The machine laid out, and nothing begun.
     pub fn new(heap: Global) -> Self
-        ensures { (Laid_out result.playback.session) × (result.begun.items ≡ []) }
+        ensures { (IsLaidOut result.playback.session) × (result.begun.items ≡ []) }
     {
         Stream {
             playback: Playback::new(),

@@ -1,5 +1,5 @@
 // The machine of the cabinet, laid out or running.
-ghost use Rattle.playback.specs.States.{in_order};
+ghost use Rattle.playback.specs.States.{IsInOrder};
 
 use optimistic::Optimistic;
 use pair8259::Pair8259;
@@ -21,5 +21,5 @@ pub type RootStage = Stall<Spl<RootPolicy, Optimistic<PendingLog>>>;
 #[derive(Drop)]
 pub struct Playback {
     pub(crate) session: Session<Hardware, HeadStage, RootStage>,
-    ghost consistent: { in_order session },
+    ghost consistent: { IsInOrder session },
 }

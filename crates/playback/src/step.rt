@@ -3,7 +3,7 @@ ghost use Rattle.std.specs.Prelude.{◌≡◌};
 ghost use Rattle.trace_commands.specs.Commands.{levels_in};
 ghost use Rattle.trace.specs.Lines.{Steps};
 ghost use Rattle.trace.specs.Sessions.{has_started};
-ghost use Rattle.playback.specs.States.{state, Laid_out};
+ghost use Rattle.playback.specs.States.{state, IsLaidOut};
 
 use crate::Playback;
 use level_stack::LevelStack;
@@ -27,7 +27,7 @@ pub struct PlaybackStepped {
 impl Playback {
     // The machine laid out, with no route set.
     pub fn new() -> Self
-        ensures { Laid_out result.session }
+        ensures { IsLaidOut result.session }
     {
         let hardware = Optimistic::new(Pair8259::new());
         let head = on(HeadPolicy, PendingLog::new());

@@ -25,8 +25,8 @@ fn raise_each<C: Controller>(
     answers: &mut Vec<Result<Raised, ControllerFault>>,
 )
     requires consistent { C.Controller.consistent controller.old }
-    requires answers_value { answers.old.items ≡ [] }
-    requires requests_len_bound { length requests.now ≤ vec_capacity answers.old }
+    requires no_answer_yet { answers.old.items ≡ [] }
+    requires room { length requests.now ≤ vec_capacity answers.old }
     ensures keeps { C.Controller.consistent controller.new }
     ensures fixed { C.Controller.ranks controller.new ≡ C.Controller.ranks controller.old }
     ensures leaves { C.Controller.view controller.new ≡ raised_all (C.Controller.view controller.old) requests.now }
@@ -49,8 +49,8 @@ fn note(served: &mut Vec<u8>, line: u8)
 // Takes and ends line after line, until none is deliverable.
 fn serve_each<C: Controller>(controller: &mut C, served: &mut Vec<u8>)
     requires consistent { C.Controller.consistent controller.old }
-    requires served_value { served.old.items ≡ [] }
-    requires bound { 64 ≤ vec_capacity served.old }
+    requires none_served_yet { served.old.items ≡ [] }
+    requires room { 64 ≤ vec_capacity served.old }
     ensures keeps { C.Controller.consistent controller.new }
     ensures fixed { C.Controller.ranks controller.new ≡ C.Controller.ranks controller.old }
     ensures leaves { Serves (C.Controller.view controller.old) served.new.items (C.Controller.view controller.new) }

@@ -1,7 +1,7 @@
 // The commands that are calls of the machine.
 ghost use Rattle.std.specs.Prelude.{◌≡◌, ℕ, Ok};
-ghost use Rattle.model.specs.declared.calls.StageCall.TheVariants.{Done as done_call, Mask as mask_call, Stall as stall-call, Unstall as unstall-call};
-ghost use Rattle.model.specs.declared.calls.Call.TheVariants.{Raise as raise-call, MaskHardware as hardware-call, Pump as pump-call, Next as next_call, To as to_call};
+ghost use Rattle.model.specs.declared.calls.StageCall.TheVariants.{Done as done_call, Mask as mask_call, Stall as stall_call, Unstall as unstall_call};
+ghost use Rattle.model.specs.declared.calls.Call.TheVariants.{Raise as raise_call, MaskHardware as hardware_call, Pump as pump_call, Next as next_call, To as to_call};
 ghost use Rattle.machine.specs.Whole.{model_of, ConsistentOf};
 ghost use Rattle.trace_calls.specs.Calls.{Called};
 
@@ -19,7 +19,7 @@ pub fn raise<H: Controller, A: Stage, B: Stage>(
 ) -> Result<Listed, TraceFault>
     requires { ConsistentOf H.Controller A.Stage B.Stage machine.old }
     ensures keeps { ConsistentOf H.Controller A.Stage B.Stage machine.new }
-    ensures called { Called (model_of H.Controller A.Stage B.Stage machine.old) (raise-call line) result (model_of H.Controller A.Stage B.Stage machine.new) }
+    ensures called { Called (model_of H.Controller A.Stage B.Stage machine.old) (raise_call line) result (model_of H.Controller A.Stage B.Stage machine.new) }
 {
     let raised = machine.raise(line)?;
     Ok(Listed::Answered(Answer::Raised(raised)))
@@ -31,7 +31,7 @@ pub fn mask_hardware<H: Controller, A: Stage, B: Stage>(
 ) -> Result<Listed, TraceFault>
     requires { ConsistentOf H.Controller A.Stage B.Stage machine.old }
     ensures keeps { ConsistentOf H.Controller A.Stage B.Stage machine.new }
-    ensures called { Called (model_of H.Controller A.Stage B.Stage machine.old) (hardware-call set) result (model_of H.Controller A.Stage B.Stage machine.new) }
+    ensures called { Called (model_of H.Controller A.Stage B.Stage machine.old) (hardware_call set) result (model_of H.Controller A.Stage B.Stage machine.new) }
 {
     machine.mask_hardware(set)?;
     Ok(Listed::Answered(Answer::Masked))
@@ -56,7 +56,7 @@ pub fn pump<H: Controller, A: Stage, B: Stage>(
 ) -> Result<Listed, TraceFault>
     requires { ConsistentOf H.Controller A.Stage B.Stage machine.old }
     ensures keeps { ConsistentOf H.Controller A.Stage B.Stage machine.new }
-    ensures called { Called (model_of H.Controller A.Stage B.Stage machine.old) (pump-call n) result (model_of H.Controller A.Stage B.Stage machine.new) }
+    ensures called { Called (model_of H.Controller A.Stage B.Stage machine.old) (pump_call n) result (model_of H.Controller A.Stage B.Stage machine.new) }
 {
     let arrived = machine.pump(n)?;
     Ok(Listed::Answered(Answer::Arrived {

@@ -1,7 +1,7 @@
 // The commands that set a level, with a stack of the saved ones.
 ghost use Rattle.std.specs.Prelude.{◌≡◌, ℕ, ◌<◌};
 ghost use Rattle.machine.specs.Whole.{model_of, ConsistentOf};
-ghost use Rattle.trace_calls.specs.declared.fault.TraceFault.TheVariants.{Machine as machine-fault};
+ghost use Rattle.trace_calls.specs.declared.fault.TraceFault.TheVariants.{Machine as machine_fault};
 ghost use Rattle.trace_calls.specs.Calls.{Linked, unknown_level, without_last, Settable, SetsAgain, Saves, Restores};
 
 use crate::TraceFault;
@@ -15,7 +15,7 @@ use spl::{LevelFault, Policy};
 use stage::Stage;
 
 fn unknown(kernel: Kernel) -> TraceFault
-    ensures { result ≡ machine-fault (unknown_level kernel) }
+    ensures { result ≡ machine_fault (unknown_level kernel) }
 {
     TraceFault::Machine(MachineFault {
         fault: Fault::Level(LevelFault::NoSuchLevel),

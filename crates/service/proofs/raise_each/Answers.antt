@@ -4,7 +4,7 @@ use Rattle.service.proofs.raise_each.Goals as goal
 
 pub loop-line-init : goal.loop-line-init
 loop-line-init g c =
-    (c.requires.consistent, refl, c.requires.requests_len_bound, subst (Raising (g.C.Controller.view c.args.controller.now) (g.C.Controller.view c.args.controller.now) c.args.requests.now 0) (sym c.requires.answers_value) (raising_none _ _))
+    (c.requires.consistent, refl, c.requires.room, subst (Raising (g.C.Controller.view c.args.controller.now) (g.C.Controller.view c.args.controller.now) c.args.requests.now 0) (sym c.requires.no_answer_yet) (raising_none _ _))
 
 pub loop-line-preserved : goal.loop-line-preserved
 loop-line-preserved g c =

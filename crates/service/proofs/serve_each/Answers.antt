@@ -7,7 +7,7 @@ use Rattle.service.proofs.serve_each.Goals as goal
 pub loop-line-init : goal.loop-line-init
 loop-line-init g c =
     let v = g.C.Controller.view c.args.controller.now in
-    (c.requires.consistent, refl, c.requires.bound, subst (Progress v v) (sym c.requires.served_value) (progress_none v))
+    (c.requires.consistent, refl, c.requires.room, subst (Progress v v) (sym c.requires.none_served_yet) (progress_none v))
 
 pub note-requires : goal.note-requires
 note-requires g c =
