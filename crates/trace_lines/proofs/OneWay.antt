@@ -9,19 +9,19 @@ use Rattle.trace_lines.specs.Forms.{command_form, setup_form, setup_of}
 use Rattle.trace_lines.proofs.Written.{command_there}
 use Rattle.trace_lines.proofs.Setups.{setup_there}
 
-module _ {F C : Type 0} (Line : List ℕ → F → Type 0) (in-range : F → Bool) (Says : F → C → Type 0) (form : List ℕ → Option F) (say : F → C)
+module _ {F C : Type 0} (Line : List ℕ → F → Type 0) (in_range : F → Bool) (Says : F → C → Type 0) (form : List ℕ → Option F) (say : F → C)
     (to : (s : List ℕ) (f : F) → Line s f → form s ≡ Some f) (says : (f : F) (c : C) → Says f c → c ≡ say f) where
   same_form : (s : List ℕ) (f g : F) → Line s f → Line s g → f ≡ g
   same_form s f g v w = let p = to s f v in let q = to s g w in cc
 
-  one : Unambiguous (Reads Line in-range Says)
+  one : Unambiguous (Reads Line in_range Says)
   one s (Ok c) (Ok d) v w =
       ap Ok (says v.1.0 c v.1.3 ∙ ap say (same_form s v.1.0 w.1.0 v.1.1 w.1.1) ∙ sym (says w.1.0 d w.1.3))
   one s (Ok c) (Err Range) v w =
-      absurd (both_ways (in-range w.1.0) w.1.2 (ap in-range (same_form s w.1.0 v.1.0 w.1.1 v.1.1) ∙ v.1.2))
+      absurd (both_ways (in_range w.1.0) w.1.2 (ap in_range (same_form s w.1.0 v.1.0 w.1.1 v.1.1) ∙ v.1.2))
   one s (Ok c) (Err Form) v w = absurd (⊎_elim (λ h. omega (arith, h, v.0)) (λ n. n v.1.0 v.1.1) w)
   one s (Err Range) (Ok d) v w =
-      absurd (both_ways (in-range v.1.0) v.1.2 (ap in-range (same_form s v.1.0 w.1.0 v.1.1 w.1.1) ∙ w.1.2))
+      absurd (both_ways (in_range v.1.0) v.1.2 (ap in_range (same_form s v.1.0 w.1.0 v.1.1 w.1.1) ∙ w.1.2))
   one s (Err Range) (Err Range) v w = refl
   one s (Err Range) (Err Form) v w = absurd (⊎_elim (λ h. omega (arith, h, v.0)) (λ n. n v.1.0 v.1.1) w)
   one s (Err Form) (Ok d) v w = absurd (⊎_elim (λ h. omega (arith, h, w.0)) (λ n. n w.1.0 w.1.1) v)

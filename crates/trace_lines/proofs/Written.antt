@@ -165,16 +165,16 @@ command_back s c e =
 
 -- ---- reading
 
-module _ {F : Type 0} (Line : List ℕ → F → Type 0) (in-range : F → Bool) (form : List ℕ → Option F) (to : (s : List ℕ) (f : F) → Line s f → form s ≡ Some f)
+module _ {F : Type 0} (Line : List ℕ → F → Type 0) (in_range : F → Bool) (form : List ℕ → Option F) (to : (s : List ℕ) (f : F) → Line s f → form s ≡ Some f)
     (from : (s : List ℕ) (f : F) → form s ≡ Some f → Line s f) where
-  reads_form : (s : List ℕ) → length s ≤ 80 → (o : Option F) → form s ≡ o → Reads Line in-range (λ f g. g ≡ f) s (ranged in-range o)
+  reads_form : (s : List ℕ) → length s ≤ 80 → (o : Option F) → form s ≡ o → Reads Line in_range (λ f g. g ≡ f) s (ranged in_range o)
   reads_form s h None e = inr (λ f w. none_some f (sym e ∙ to s f w))
   reads_form s h (Some f) e =
-      cond_both (in-range f) (Ok f) (Err Range) (Reads Line in-range (λ f g. g ≡ f) s)
+      cond_both (in_range f) (Ok f) (Err Range) (Reads Line in_range (λ f g. g ≡ f) s)
       (λ t. (h, (f, from s f e, t, refl)))
       (λ t. (h, (f, from s f e, t)))
 
-  pub reads_ranged : (s : List ℕ) → length s ≤ 80 → Reads Line in-range (λ f g. g ≡ f) s (ranged in-range (form s))
+  pub reads_ranged : (s : List ℕ) → length s ≤ 80 → Reads Line in_range (λ f g. g ≡ f) s (ranged in_range (form s))
   reads_ranged s h = reads_form s h (form s) refl
 
 pub reads_command : (s : List ℕ) → length s ≤ 80 → ReadsCommand s (ranged command_in_range (command_form s))

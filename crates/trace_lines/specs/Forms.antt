@@ -19,8 +19,8 @@ formed (Some x) = Ok x
 
 -- and then what is out of range
 abbrev pub ranged : {X : Type 0} → (X → Bool) → Option X → Result X TextFault
-ranged in-range None = Err Form
-ranged in-range (Some x) = cond (in-range x) (Ok x) (Err Range)
+ranged in_range None = Err Form
+ranged in_range (Some x) = cond (in_range x) (Ok x) (Err Range)
 
 abbrev pub mapped : {X Y : Type 0} → (X → Y) → Option X → Option Y
 mapped f None = None

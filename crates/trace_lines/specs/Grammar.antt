@@ -78,10 +78,10 @@ command_in_range (RestoreLevel k) = true
 
 -- F adds 1 if the head handles the line, 2 if the head passes it on, 4 if the root handles it
 abbrev pub SetupSays : SetupForm → Setup → Type 0
-SetupSays (route n f) (Route line head-handles head-passes root-handles) =
-    (line ≡ n) × (f ≡ cond head-handles 1 0 + cond head-passes 2 0 + cond root-handles 4 0)
+SetupSays (route n f) (Route line head_handles head_passes root_handles) =
+    (line ≡ n) × (f ≡ cond head_handles 1 0 + cond head_passes 2 0 + cond root_handles 4 0)
 SetupSays (route n f) Start = ⊥
-SetupSays start (Route line head-handles head-passes root-handles) = ⊥
+SetupSays start (Route line head_handles head_passes root_handles) = ⊥
 SetupSays start Start = Unit {0}
 
 abbrev pub CommandSays : Command → Command → Type 0
@@ -92,9 +92,9 @@ CommandSays f c = c ≡ f
 -- A line of at most 80 bytes that has a form says its command if its numbers are in range; out of range they are refused, and so is,
 -- before that, any line of another form.
 abbrev pub Reads : {F C : Type 0} → (List ℕ → F → Type 0) → (F → Bool) → (F → C → Type 0) → List ℕ → Result C TextFault → Type 0
-Reads Line in-range Says s (Ok c) = (length s ≤ 80) × ((f : _) × Line s f × (in-range f ≡ true) × Says f c)
-Reads Line in-range Says s (Err Range) = (length s ≤ 80) × ((f : _) × Line s f × (in-range f ≡ false))
-Reads Line in-range Says s (Err Form) = (80 < length s) ⊎ ((f : _) → Line s f → ⊥)
+Reads Line in_range Says s (Ok c) = (length s ≤ 80) × ((f : _) × Line s f × (in_range f ≡ true) × Says f c)
+Reads Line in_range Says s (Err Range) = (length s ≤ 80) × ((f : _) × Line s f × (in_range f ≡ false))
+Reads Line in_range Says s (Err Form) = (80 < length s) ⊎ ((f : _) → Line s f → ⊥)
 
 abbrev pub ReadsSetup : List ℕ → Result Setup TextFault → Type 0
 ReadsSetup = Reads SetupLine setup_in_range SetupSays
