@@ -16,7 +16,7 @@ use Rattle.model.specs.declared.calls.Call.TheVariants.{Raise as raise, MaskHard
 use Rattle.model.specs.declared.calls.Answer.{Answer}
 use Rattle.model.specs.declared.calls.Answer.TheVariants.{Delivered as delivered, Held as held, Busy as busy, WasStalled as was_stalled, Told as set_told}
 use Rattle.model.specs.Arrivals.{Arrivals, Passes}
-use Rattle.model.specs.Stage.{StageModel, told, telling, Through, SetsStalled, SetsLevel}
+use Rattle.model.specs.Stage.{StageModel, told, telling, Through, SetsStalled, SetsStageLevel}
 use Rattle.model.specs.Machine.{MachineModel, pipeline, before, with_hardware, with_stage, view, tells, set_of, AtHardware, AtStage, pumped, Pumps, Held, Busy, Answered, raise_says, mask_says, done_says, level_says, pump_says, Nexts, StageStep, Step}
 use Rattle.model.specs.Run.{Entry, calls, Run, Fresh}
 use Rattle.model.specs.Promises.{EveryListRuns}
@@ -140,8 +140,8 @@ module _ (m : MachineModel) (o : SoundStages m) where
       ]
 
   level_by : (k : Kernel) (c : ℕ) (x : Bool) → (m.stage k).policy.names c ≡ x → Stepped (StageStep k m (set_level c))
-  level_by k c true e = at_stage k (SetsLevel c) (level_says k) (Ok (m.stage k).level) _ (e, refl, refl)
-  level_by k c false e = at_stage k (SetsLevel c) (level_says k) (Err NoSuchLevel) _ (e, refl, refl)
+  level_by k c true e = at_stage k (SetsStageLevel c) (level_says k) (Ok (m.stage k).level) _ (e, refl, refl)
+  level_by k c false e = at_stage k (SetsStageLevel c) (level_says k) (Err NoSuchLevel) _ (e, refl, refl)
 
   stage_always : (k : Kernel) (c : StageCall) → Stepped (StageStep k m c)
   stage_always k done = let v = told (m.stage k) in through k Ends (done_says k) (end_result v) (end_leaves v) (end_computed v (sound_at k))

@@ -7,7 +7,7 @@ use Rattle.model.specs.declared.calls.Kernel.{Kernel}
 use Rattle.model.specs.declared.calls.StageCall.{StageCall}
 use Rattle.model.specs.declared.calls.StageCall.TheVariants.{Done as done, Mask as mask, Stall as stall, Unstall as unstall, SetLevel as set_level}
 use Rattle.model.specs.declared.calls.Answer.{Answer}
-use Rattle.model.specs.Stage.{StageModel, told, Through, SetsStalled, SetsLevel}
+use Rattle.model.specs.Stage.{StageModel, told, Through, SetsStalled, SetsStageLevel}
 use Rattle.model.specs.Machine.{MachineModel, with_stage, Answered, AtStage, Nexts, StageStep}
 use Rattle.model.proofs.Views.{Fixed, masks_fixed, takes_fixed, ends_fixed, masks_pending, ends_pending}
 
@@ -29,7 +29,7 @@ through_keeps R f h s s' r (w, x, e) = record { lines = through_lines R f s s' r
 stalled_keeps : (b : Bool) (s s' : StageModel) (r : Bool) → SetsStalled b s r s' → Keeps s.own s'.own
 stalled_keeps b s s' r h = same_keeps (ap (λ x. x.own) h.1)
 
-level_keeps : (c : ℕ) (s s' : StageModel) (r : Result ℕ LevelFault) → SetsLevel c s r s' → Keeps s.own s'.own
+level_keeps : (c : ℕ) (s s' : StageModel) (r : Result ℕ LevelFault) → SetsStageLevel c s r s' → Keeps s.own s'.own
 level_keeps c s s' (Ok r) h = same_keeps (ap (λ x. x.own) h.2)
 level_keeps c s s' (Err e) h = same_keeps (ap (λ x. x.own) h.2)
 

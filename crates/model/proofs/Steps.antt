@@ -17,7 +17,7 @@ use Rattle.model.specs.declared.calls.Call.TheVariants.{Raise as raise, MaskHard
 use Rattle.model.specs.declared.calls.Answer.{Answer}
 use Rattle.model.specs.declared.calls.Answer.TheVariants.{Delivered as delivered, WasStalled as was_stalled, Told as set_told}
 use Rattle.model.specs.Arrivals.{cleared}
-use Rattle.model.specs.Stage.{StageModel, blocks, told, telling, set_own, Through, SetsStalled, SetsLevel}
+use Rattle.model.specs.Stage.{StageModel, blocks, told, telling, set_own, Through, SetsStalled, SetsStageLevel}
 use Rattle.model.specs.Machine.{MachineModel, before, same, routed, with_stage, tells, set_of, AtHardware, AtStage, pumped, Pumps, Held, Busy, Answered, Only, raise_says, mask_says, done_says, level_says, pump_says, Nexts, StageStep, Step}
 use Rattle.model.specs.Promises.{concerns}
 use Rattle.model.proofs.Kernels.{stage_cases}
@@ -82,7 +82,7 @@ stalled_alike b s t s' t' r q l (x, e) (y, f) = (
   subst₂ AlikeStage (sym e) (sym f) (record { own = l.own; policy = l.policy; level = l.level; stalled = refl }),
 )
 
-level_alike : (c : ℕ) → Respects AlikeStage (SetsLevel c)
+level_alike : (c : ℕ) → Respects AlikeStage (SetsStageLevel c)
 level_alike c s t s' t' (Ok r) (Ok q) l x y = (
   ap Ok (x.1 ∙ l.level ∙ sym y.1),
   subst₂ AlikeStage (sym x.2) (sym y.2) (record { own = l.own; policy = l.policy; level = refl; stalled = l.stalled }),

@@ -98,8 +98,8 @@ leveled_told s = spl_view s.below s.own s.low
 abbrev pub over : Leveled → ℕ → Bool
 over s n = nat_lt (code s.level) (code (root_level n))
 
-abbrev pub SameSettings : Leveled → Leveled → Type 0
-SameSettings s t = (t.level ≡ s.level) × (t.own ≡ s.own) × (t.low ≡ s.low)
+abbrev pub LeveledSameSettings : Leveled → Leveled → Type 0
+LeveledSameSettings s t = (t.level ≡ s.level) × (t.own ≡ s.own) × (t.low ≡ s.low)
 
 abbrev pub LeveledSets : BsdLevel → Leveled → Result BsdLevel LevelFault → Leveled → Type 0
 LeveledSets given s r t =
@@ -107,17 +107,17 @@ LeveledSets given s r t =
     × Blocking t.below (over t) t.own t.low
 
 abbrev pub LeveledRaises : ℕ → Leveled → Result Raised ControllerFault → Leveled → Type 0
-LeveledRaises n s r t = Raises (leveled_told s) n r (leveled_told t) × SameSettings s t × Raises s.below n r t.below
+LeveledRaises n s r t = Raises (leveled_told s) n r (leveled_told t) × LeveledSameSettings s t × Raises s.below n r t.below
 
 abbrev pub LeveledMasks : ℕ → Leveled → Result (Unit {0}) ControllerFault → Leveled → Type 0
 LeveledMasks set s r t =
     Masks (leveled_told s) set r (leveled_told t) × (t.level ≡ s.level) × (t.low ≡ s.low) × MasksOwn s.below s.low set r (t.own ≡ set) (t ≡ s) t.below
 
 abbrev pub LeveledTakes : Leveled → Option ℕ → Leveled → Type 0
-LeveledTakes s r t = Takes (leveled_told s) r (leveled_told t) × SameSettings s t × Takes s.below r t.below
+LeveledTakes s r t = Takes (leveled_told s) r (leveled_told t) × LeveledSameSettings s t × Takes s.below r t.below
 
 abbrev pub LeveledEnds : Leveled → Result ℕ ControllerFault → Leveled → Type 0
-LeveledEnds s r t = Ends (leveled_told s) r (leveled_told t) × SameSettings s t × Ends s.below r t.below
+LeveledEnds s r t = Ends (leveled_told s) r (leveled_told t) × LeveledSameSettings s t × Ends s.below r t.below
 
 abbrev pub LeveledActs : Leveled → Act → Said → Leveled → Type 0
 LeveledActs s (raise n) a t = Answered (LeveledRaises n) raise_said s a t

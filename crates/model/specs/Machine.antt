@@ -22,7 +22,7 @@ use Rattle.model.specs.declared.calls.Call.TheVariants.{Raise as raise, MaskHard
 use Rattle.model.specs.declared.calls.Answer.{Answer}
 use Rattle.model.specs.declared.calls.Answer.TheVariants.{Raised as raised, Masked as mask_set, Arrived as arrived, Delivered as delivered, Held as held, Busy as busy, Ended as ended, WasStalled as was_stalled, WasAtLevel as was_at_level, Told as set_told, Refused as refused}
 use Rattle.model.specs.Arrivals.{Arrivals, cleared}
-use Rattle.model.specs.Stage.{StageModel, told, set_own, Through, SetsStalled, SetsLevel}
+use Rattle.model.specs.Stage.{StageModel, told, set_own, Through, SetsStalled, SetsStageLevel}
 
 -- ---- the kernels
 
@@ -173,7 +173,7 @@ StageStep k m done a m' = Answered (AtStage k (Through Ends)) (done_says k) m a 
 StageStep k m (mask s) a m' = Answered (AtStage k (Through (λ v. Masks v s.bits))) (mask_says (kernel k)) m a m'
 StageStep k m stall a m' = Answered (AtStage k (SetsStalled true)) was_stalled m a m'
 StageStep k m unstall a m' = Answered (AtStage k (SetsStalled false)) was_stalled m a m'
-StageStep k m (set_level c) a m' = Answered (AtStage k (SetsLevel c)) (level_says k) m a m'
+StageStep k m (set_level c) a m' = Answered (AtStage k (SetsStageLevel c)) (level_says k) m a m'
 
 -- what each call answers and leaves
 abbrev pub Step : MachineModel → Call → Answer → MachineModel → Type 0

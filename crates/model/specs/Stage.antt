@@ -49,6 +49,6 @@ abbrev pub SetsStalled : Bool → StageModel → Bool → StageModel → Type 0
 SetsStalled b s r s' = (r ≡ s.stalled) × (s' ≡ set_stalled s b)
 
 -- set level sets the level that the code names, and answers the former one's code; a code that names none is refused
-abbrev pub SetsLevel : ℕ → StageModel → Result ℕ LevelFault → StageModel → Type 0
-SetsLevel c s (Ok r) s' = (s.policy.names c ≡ true) × (r ≡ s.level) × (s' ≡ set_level s c)
-SetsLevel c s (Err e) s' = (s.policy.names c ≡ false) × (e ≡ NoSuchLevel) × (s' ≡ s)
+abbrev pub SetsStageLevel : ℕ → StageModel → Result ℕ LevelFault → StageModel → Type 0
+SetsStageLevel c s (Ok r) s' = (s.policy.names c ≡ true) × (r ≡ s.level) × (s' ≡ set_level s c)
+SetsStageLevel c s (Err e) s' = (s.policy.names c ≡ false) × (e ≡ NoSuchLevel) × (s' ≡ s)

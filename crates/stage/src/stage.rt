@@ -2,7 +2,7 @@
 ghost use Rattle.std.specs.Prelude.{◌≡◌, true, false};
 ghost use Rattle.controller.specs.View.{Sound};
 ghost use Rattle.controller.specs.Calls.{Raises, Masks, Takes, Ends};
-ghost use Rattle.model.specs.Stage.{StageModel, told, Through, SetsStalled, SetsLevel};
+ghost use Rattle.model.specs.Stage.{StageModel, told, Through, SetsStalled, SetsStageLevel};
 ghost use Rattle.model.specs.Machine.{tells};
 
 use controller::{ControllerFault, Raised};
@@ -63,7 +63,7 @@ pub trait Stage {
     fn set_level(&mut self, code: u8) -> Result<u8, LevelFault>
         requires { consistent self.old }
         ensures keeps { consistent self.new }
-        ensures leaves { SetsLevel code (model self.old) result (model self.new) };
+        ensures leaves { SetsStageLevel code (model self.old) result (model self.new) };
 
     ghost sound: { (s : Self) → consistent s → Sound (model s).own };
 }

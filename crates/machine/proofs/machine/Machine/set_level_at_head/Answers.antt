@@ -1,5 +1,5 @@
 use Rattle.std.proofs.Common.{Ok, Err, refl}
-use Rattle.model.specs.Stage.{SetsLevel}
+use Rattle.model.specs.Stage.{SetsStageLevel}
 use Rattle.model.specs.Machine.{level_says}
 use Rattle.model.specs.declared.calls.Kernel.TheVariants.{Head as head}
 use Rattle.machine_faults.specs.declared.fault.Fault.TheVariants.{Level}
@@ -18,7 +18,7 @@ returns-in_err-former g c =
     let n = g.A.Stage.model c.set_level.new.self in
     record {
       keeps = (c.requires.0, c.set_level.ensures.keeps, c.requires.2);
-      steps = head_says (level_says head) r (Err c.in_err-former.field-0.0) (level_answer (placed at_head c.from_residual.result)) (head_refused level_answer c.from_residual.result (Level c.in_err-former.field-0.0) c.from_residual.ensures.1) (SetsLevel c.args.code) v a n b c.in_err-former.ensures.leaves;
+      steps = head_says (level_says head) r (Err c.in_err-former.field-0.0) (level_answer (placed at_head c.from_residual.result)) (head_refused level_answer c.from_residual.result (Level c.in_err-former.field-0.0) c.from_residual.ensures.1) (SetsStageLevel c.args.code) v a n b c.in_err-former.ensures.leaves;
     }
 
 pub returns : goal.returns
@@ -31,5 +31,5 @@ returns g c =
     let n = g.A.Stage.model c.set_level.new.self in
     record {
       keeps = (c.requires.0, c.set_level.ensures.keeps, c.requires.2);
-      steps = head_says (level_says head) r (Ok c.in_ok-former.former) (level_answer (Ok c.in_ok-former.former)) refl (SetsLevel c.args.code) v a n b c.in_ok-former.ensures.leaves;
+      steps = head_says (level_says head) r (Ok c.in_ok-former.former) (level_answer (Ok c.in_ok-former.former)) refl (SetsStageLevel c.args.code) v a n b c.in_ok-former.ensures.leaves;
     }
