@@ -5,7 +5,7 @@ use Rattle.model.specs.declared.calls.Call.{Call}
 use Rattle.model.specs.declared.calls.Answer.{Answer}
 use Rattle.model.specs.Stage.{PolicyModel, StageModel}
 use Rattle.model.specs.Machine.{MachineModel}
-use Rattle.model.specs.Run.{Made, Fresh, Routable, Run, MadeAlike, answers}
+use Rattle.model.specs.Run.{Made, Fresh, Routable, Run, MadeAlike}
 use Rattle.model.specs.Promises.{RunPromises}
 use Rattle.routes.specs.Sets.{default_routes}
 use Rattle.machine.specs.Whole.{machine, MadeStage}

@@ -5,7 +5,6 @@ use native.Mathlib.Decide.{dec_le}
 use Rattle.std.proofs.lemmas.List.{take_all, take-take, take-append-le}
 use Rattle.model.specs.Machine.{MachineModel}
 use Rattle.model.specs.Run.{Entry}
-use Rattle.trace_lines.specs.declared.commands.TextFault.{TextFault}
 use Rattle.trace_lines.specs.declared.commands.TextFault.TheVariants.{Form, Range}
 use Rattle.trace_lines.specs.Cut.{whole_lines, begun, last_line, FirstWholeLine, NoWholeLine}
 use Rattle.trace_lines.proofs.Cutting.{lines_are, cut_anywhere, unended_begun, unended_more, unended_first, begun_unended}

@@ -1,5 +1,5 @@
 -- The whole lines of a text, played one after another.
-use Rattle.std.proofs.Common.{◌≡◌, ℕ, ◌+◌, ◌-◌, ◌<◌, ◌≤◌, Bool, List, [], ◌∷◌, ◌++◌, length, drop, IfOk, Ok, Err, Result, sym, refl, ap, ◌∙◌, subst, append_assoc, append-nil, arith, length-drop, MutBor}
+use Rattle.std.proofs.Common.{◌≡◌, ℕ, ◌+◌, ◌<◌, ◌≤◌, Bool, List, [], ◌∷◌, ◌++◌, length, drop, IfOk, Ok, Err, Result, sym, refl, ap, ◌∙◌, subst, append_assoc, append-nil, arith, length-drop, MutBor}
 use Rattle.std.proofs.lemmas.List.{drop-drop}
 use Rattle.levels.specs.declared.Class.{Class}
 use Rattle.levels.specs.declared.BsdLevel.{BsdLevel}

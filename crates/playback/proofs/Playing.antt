@@ -1,5 +1,5 @@
 -- Lines played one after another, and the calls that they make.
-use Rattle.std.proofs.Common.{◌≡◌, ℕ, ◌≤◌, Bool, true, false, List, [], ◌∷◌, ◌++◌, length, take, drop, Ok, Err, Option, Result, sym, refl, ap, ◌∙◌, subst, subst₂, append_assoc, append-nil, arith, length-append, MatchResult}
+use Rattle.std.proofs.Common.{◌≡◌, ℕ, ◌≤◌, Bool, true, false, List, [], ◌∷◌, ◌++◌, length, take, drop, Ok, Err, Option, Result, sym, refl, ap, ◌∙◌, subst, subst₂, append_assoc, append-nil, arith, length-append}
 use Rattle.std.proofs.lemmas.List.{take_at}
 use Rattle.spl.specs.Head.{head_code, head_named}
 use Rattle.spl.specs.Root.{root_code, root_named}
@@ -9,11 +9,10 @@ use Rattle.model.specs.declared.calls.StageCall.TheVariants as stage_call
 use Rattle.model.specs.declared.calls.Call.{Call}
 use Rattle.model.specs.declared.calls.Call.TheVariants as call
 use Rattle.model.specs.declared.calls.Answer.TheVariants as answer
-use Rattle.model.specs.Machine.{MachineModel, Step}
+use Rattle.model.specs.Machine.{MachineModel}
 use Rattle.model.specs.Run.{Entry, Run}
 use Rattle.model.proofs.Turns.{step_routes}
 use Rattle.machine.specs.Answering.{refusal}
-use Rattle.trace_lines.specs.declared.commands.TextFault.{TextFault}
 use Rattle.trace_lines.specs.declared.commands.Command.{Command}
 use Rattle.trace_lines.specs.declared.commands.Command.TheVariants.{Raise, MaskHardware, Mask, Pump, Next, Done, Stall, Unstall, SetLevel, RestoreLevel}
 use Rattle.listing.specs.declared.listed.Listed.{Listed}

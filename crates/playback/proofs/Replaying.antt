@@ -7,7 +7,6 @@ use Rattle.levels.specs.declared.BsdLevel.{BsdLevel}
 use Rattle.levels.specs.declared.BsdLevel.TheVariants.{None as lowest_level}
 use Rattle.bank.specs.Contents.{all_lines}
 use Rattle.pair8259.specs.Pair.{pair_lines}
-use Rattle.model.specs.declared.calls.Kernel.{Kernel}
 use Rattle.model.specs.declared.calls.Kernel.TheVariants.{Head as head, Root as root}
 use Rattle.model.specs.Machine.{MachineModel, Routes}
 use Rattle.model.specs.Run.{Entry, Run, Fresh, Routable}
@@ -15,7 +14,6 @@ use Rattle.model.proofs.Runs.{promises_kept}
 use Rattle.routes.specs.declared.Route.{Route as RouteOf}
 use Rattle.machine.specs.Routing.{CanHandle}
 use Rattle.machine.proofs.Laid.{none_within, common_right, flag_within}
-use Rattle.trace_lines.specs.declared.commands.TextFault.{TextFault}
 use Rattle.trace_lines.specs.declared.commands.Setup.{Setup}
 use Rattle.trace_lines.specs.declared.commands.Setup.TheVariants.{Route, Start}
 use Rattle.trace_lines.specs.Cut.{lines_of}

@@ -1,11 +1,11 @@
 -- That the cabinet's machine is consistent has one proof at most.
-use Rattle.std.proofs.Common.{◌≡◌, ℕ, ◌<◌, Bool, true, false, not, ◌&&◌, Some, None, Option, refl, ap, arith}
+use Rattle.std.proofs.Common.{◌≡◌, ℕ, ◌<◌, Bool, true, false, Some, None, Option, refl, ap, arith}
 use mathlib.Core.HLevel.{hedberg, Discrete, is_prop→PathP, Π_prop, →_prop, ×_prop, ×₃_prop}
 use mathlib.Core.Logic.{∥∥₁_elim}
 use native.Mathlib.Nat.{ℕ_set}
 use native.Mathlib.Decide.{ℕ_discrete}
 use denote.Struct.Props.{props}
-use Rattle.lines.specs.Sets.{has, union, Within}
+use Rattle.lines.specs.Sets.{has, Within}
 use Rattle.controller.specs.View.{View, WeakOrder, Sound, Serving}
 use Rattle.optimistic.specs.Logging.{Logging}
 use Rattle.spl.specs.Blocking.{Blocking, Low}

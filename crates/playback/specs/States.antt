@@ -1,5 +1,5 @@
 -- The cabinet's machine under a trace: its parts as types, and what they are by the rules.
-use Rattle.std.specs.Prelude.{◌≡◌, ℕ, Bool, false, List, replicate}
+use Rattle.std.specs.Prelude.{◌≡◌, false, replicate}
 use Rattle.levels.specs.declared.Class.{Class}
 use Rattle.levels.specs.declared.BsdLevel.{BsdLevel}
 use Rattle.levels.specs.declared.BsdLevel.TheVariants.{None as lowest_level}

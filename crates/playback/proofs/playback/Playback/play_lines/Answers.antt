@@ -1,8 +1,4 @@
-use Rattle.std.proofs.Common.{vec_items}
 use Rattle.std.proofs.lemmas.List.{take_rest}
-use Rattle.trace_commands.specs.Commands.{levels_in}
-use Rattle.trace.specs.Sessions.{has_started}
-use Rattle.playback.specs.States.{state}
 use Rattle.playback.proofs.Looping.{so_far_more, so_far_all}
 use Rattle.playback.proofs.playback.Playback.play_lines.Goals as goal
 
