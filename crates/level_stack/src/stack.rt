@@ -31,7 +31,9 @@ fn get<L: Copy>(places: &[L], at: usize) -> L
 impl<'a, L: Copy> LevelStack<'a, L> {
     // The empty stack over the places, whatever they hold.
     pub fn over(places: &'a mut [L]) -> Self
-        ensures { (result.used ≡ 0) × ((result.places.now ≡ places.old) × (result.places.ghost_name ≡ places.entry.ghost_name)) }
+        ensures empty { result.used ≡ 0 }
+        ensures places { result.places.now ≡ places.old }
+        ensures lent { result.places.ghost_name ≡ places.entry.ghost_name }
     {
         LevelStack { places, used: 0 }
     }

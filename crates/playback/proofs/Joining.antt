@@ -9,9 +9,8 @@ use Rattle.trace_lines.specs.declared.commands.TextFault.TheVariants.{Form, Rang
 use Rattle.trace_lines.specs.Cut.{whole_lines, begun, last_line, FirstWholeLine, NoWholeLine}
 use Rattle.trace_lines.proofs.Cutting.{lines_are, cut_anywhere, unended_begun, unended_more, unended_first, begun_unended}
 use Rattle.listing.specs.declared.listed.Listed.{Listed}
-use Rattle.trace_calls.specs.declared.fault.TraceFault.{TraceFault}
-use Rattle.trace_commands.specs.Commands.{Traced}
-use Rattle.trace.specs.Lines.{PlaysSetup, PlaysCommand, Plays}
+use Rattle.trace.specs.declared.fault.TraceFault.{TraceFault}
+use Rattle.trace.specs.Lines.{Traced, PlaysSetup, PlaysCommand, Plays}
 use Rattle.playback.specs.Traces.{LineMakes, PlaysAll, PlaysLines}
 use Rattle.playback.specs.Blocks.{KeptOf, Feeds, Finishes, BlocksJoin, BlockIsText}
 use Rattle.playback.proofs.Playing.{plays_none, plays_joined}

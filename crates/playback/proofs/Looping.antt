@@ -5,7 +5,7 @@ use Rattle.levels.specs.declared.Class.{Class}
 use Rattle.levels.specs.declared.BsdLevel.{BsdLevel}
 use Rattle.trace_lines.specs.Cut.{lines_of, whole_lines, begun, last_line, FirstWholeLine, NoWholeLine}
 use Rattle.trace_lines.proofs.Cutting.{lines_are}
-use Rattle.trace_commands.specs.Commands.{Traced}
+use Rattle.trace.specs.Lines.{Traced}
 use Rattle.playback.specs.Traces.{PlaysLines}
 use Rattle.playback.proofs.Playing.{plays_none, plays_joined}
 

@@ -19,11 +19,10 @@ use Rattle.listing.specs.declared.listed.Listed.{Listed}
 use Rattle.listing.specs.declared.listed.Listed.TheVariants.{Accepted, Answered, Restored, Refused}
 use Rattle.listing.specs.declared.listed.ShortBuffer.{ShortBuffer}
 use Rattle.listing.specs.Listing.{line}
-use Rattle.trace_calls.specs.declared.fault.TraceFault.{TraceFault}
-use Rattle.trace_calls.specs.declared.fault.TraceFault.TheVariants.{Text, Machine, Saved}
-use Rattle.trace_calls.specs.Calls.{Levels, Called, Saves, Restores}
-use Rattle.trace_commands.specs.Commands.{Traced, Obeys}
-use Rattle.trace.specs.Lines.{PlaysCommand, Plays, Steps}
+use Rattle.trace.specs.declared.fault.TraceFault.{TraceFault}
+use Rattle.trace.specs.declared.fault.TraceFault.TheVariants.{Text, Machine, Saved}
+use Rattle.trace.specs.Calls.{Levels, Called, Saves, Restores}
+use Rattle.trace.specs.Lines.{Traced, Obeys, PlaysCommand, Plays, Steps}
 use Rattle.trace.specs.Listing.{listed}
 use Rattle.playback.specs.Traces.{one_call, CalledOnce, LevelSet, LevelRestored, Makes, LineMakes, PlaysAll, listing_of, PlaysLines}
 

@@ -19,12 +19,11 @@ use Rattle.trace_lines.specs.declared.commands.Setup.TheVariants.{Route, Start}
 use Rattle.trace_lines.specs.Cut.{lines_of}
 use Rattle.listing.specs.declared.listed.Listed.{Listed}
 use Rattle.listing.specs.declared.listed.Listed.TheVariants.{Accepted, Answered, Restored, Refused}
-use Rattle.trace_calls.specs.declared.fault.TraceFault.{TraceFault}
-use Rattle.trace_calls.specs.declared.fault.TraceFault.TheVariants.{Text, Machine, Saved}
+use Rattle.trace.specs.declared.fault.TraceFault.{TraceFault}
+use Rattle.trace.specs.declared.fault.TraceFault.TheVariants.{Text, Machine, Saved}
 use Rattle.trace.specs.declared.session.Session.{Session}
-use Rattle.trace_calls.specs.Calls.{Levels}
-use Rattle.trace_commands.specs.Commands.{Traced}
-use Rattle.trace.specs.Lines.{with_routes, reroute, Reroutes, SetsUp, PlaysSetup, Plays}
+use Rattle.trace.specs.Calls.{Levels}
+use Rattle.trace.specs.Lines.{Traced, with_routes, reroute, Reroutes, SetsUp, PlaysSetup, Plays}
 use Rattle.cabinet.specs.Fresh.{cabinet}
 use Rattle.playback.specs.States.{Hardware, HeadStage, RootStage, state, IsLaidOut, at_first}
 use Rattle.playback.specs.Traces.{LineMakes, PlaysAll, PlaysLines, started_from, Replays}

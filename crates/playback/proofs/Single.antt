@@ -17,7 +17,7 @@ use Rattle.machine.specs.Whole.{ConsistentOf}
 use Rattle.trace.specs.declared.session.Session.{Session}
 use Rattle.trace.specs.declared.session.Session.TheVariants.{LaidOut, Running}
 use Rattle.trace.specs.Sessions.{SessionConsistent}
-use Rattle.trace_commands.specs.Stages.{head_stage, root_stage}
+use Rattle.trace.specs.Stages.{head_stage, root_stage}
 use Rattle.playback.specs.Parts.{pair, log, optimistic}
 use Rattle.playback.specs.States.{Hardware, HeadStage, RootStage, IsInOrder}
 

@@ -1,7 +1,7 @@
 -- A trace that comes in blocks: a line may begin in one block and end in a later one.
 use Rattle.std.specs.Prelude.{◌≡◌, ℕ, Bool, List, [], ◌++◌, take}
 use Rattle.trace_lines.specs.Cut.{lines_of, whole_lines, begun, last_line}
-use Rattle.trace_commands.specs.Commands.{Traced}
+use Rattle.trace.specs.Lines.{Traced}
 use Rattle.playback.specs.Traces.{PlaysLines}
 
 -- The bytes u are kept of a line that has begun, p: its first 81. No more is needed, since every line of over 80 bytes is refused.

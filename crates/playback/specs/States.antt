@@ -17,10 +17,10 @@ use Rattle.model.specs.Machine.{MachineModel}
 use Rattle.model.specs.Run.{Fresh}
 use Rattle.cabinet.specs.Fresh.{cabinet}
 use Rattle.trace.specs.declared.session.Session.{Session}
-use Rattle.trace_calls.specs.Calls.{Levels}
-use Rattle.trace_commands.specs.Commands.{Traced, levels_in, traced}
+use Rattle.trace.specs.Calls.{Levels}
+use Rattle.trace.specs.Lines.{Traced, levels_in, traced}
 use Rattle.trace.specs.Sessions.{has_started, session_model, SessionConsistent}
-use Rattle.trace_commands.specs.Stages.{head_stage, root_stage}
+use Rattle.trace.specs.Stages.{head_stage, root_stage}
 use Rattle.playback.specs.Parts.{pair, log, optimistic}
 
 -- a pending log, the hardware and the stages of the kernels

@@ -18,10 +18,9 @@ use Rattle.trace_lines.specs.Grammar.{ReadsCommand}
 use Rattle.listing.specs.declared.listed.Listed.{Listed}
 use Rattle.listing.specs.declared.listed.Listed.TheVariants.{Accepted, Answered, Restored, Refused}
 use Rattle.listing.specs.Listing.{line}
-use Rattle.trace_calls.specs.declared.fault.TraceFault.{TraceFault}
-use Rattle.trace_calls.specs.declared.fault.TraceFault.TheVariants.{Text, Machine, Saved}
-use Rattle.trace_commands.specs.Commands.{Traced}
-use Rattle.trace.specs.Lines.{with_routes, Plays}
+use Rattle.trace.specs.declared.fault.TraceFault.{TraceFault}
+use Rattle.trace.specs.declared.fault.TraceFault.TheVariants.{Text, Machine, Saved}
+use Rattle.trace.specs.Lines.{Traced, with_routes, Plays}
 use Rattle.trace.specs.Listing.{listed}
 
 -- ---- the calls that lines make

@@ -1,6 +1,6 @@
 // Blocks of a trace, one after another.
 ghost use Rattle.std.specs.Prelude.{◌≡◌, ℕ, ◌-◌, ◌≤◌, min, [], ◌++◌, length, take, IfOk, vec_len, OnOk};
-ghost use Rattle.trace_commands.specs.Commands.{levels_in};
+ghost use Rattle.trace.specs.Lines.{levels_in};
 ghost use Rattle.trace.specs.Sessions.{has_started};
 ghost use Rattle.playback.specs.States.{state, IsLaidOut};
 ghost use Rattle.playback.specs.Blocks.{Feeds, Finishes, BlocksJoin, BlockIsText};
@@ -31,7 +31,8 @@ fn keep(begun: &mut Vec<u8>, part: &[u8]) -> Result<(), AllocError>
 impl Stream {
     // The machine laid out, and nothing begun.
     pub fn new(heap: Global) -> Self
-        ensures { (IsLaidOut result.playback.session) × (result.begun.items ≡ []) }
+        ensures laid_out { IsLaidOut result.playback.session }
+        ensures begun { result.begun.items ≡ [] }
     {
         Stream {
             playback: Playback::new(),
@@ -83,5 +84,6 @@ impl Stream {
 
 // However the input is cut into blocks, the same is listed: what replays the whole text lists.
 pub fn a_trace_may_come_in_blocks()
-    ensures { (BlocksJoin) × (BlockIsText) }
+    ensures join { BlocksJoin }
+    ensures whole { BlockIsText }
 {}

@@ -1,7 +1,7 @@
 // Lines of a trace, one after another.
 ghost use Rattle.std.specs.Prelude.{◌≡◌, ℕ, ◌≤◌, [], ◌∷◌, length, drop, IfOk};
 ghost use Rattle.trace_lines.specs.Cut.{whole_lines, begun};
-ghost use Rattle.trace_commands.specs.Commands.{levels_in};
+ghost use Rattle.trace.specs.Lines.{levels_in};
 ghost use Rattle.trace.specs.Sessions.{has_started};
 ghost use Rattle.playback.specs.States.{state};
 ghost use Rattle.playback.specs.Traces.{PlaysLines};

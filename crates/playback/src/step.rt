@@ -1,7 +1,6 @@
 // A machine laid out, and one line of a trace.
 ghost use Rattle.std.specs.Prelude.{◌≡◌};
-ghost use Rattle.trace_commands.specs.Commands.{levels_in};
-ghost use Rattle.trace.specs.Lines.{Steps};
+ghost use Rattle.trace.specs.Lines.{levels_in, Steps};
 ghost use Rattle.trace.specs.Sessions.{has_started};
 ghost use Rattle.playback.specs.States.{state, IsLaidOut};
 

@@ -1,7 +1,7 @@
 // A whole trace.
 ghost use Rattle.std.specs.Prelude.{◌≡◌, ℕ, IfOk};
 ghost use Rattle.trace_lines.specs.Cut.{lines_of, last_line};
-ghost use Rattle.trace_commands.specs.Commands.{levels_in};
+ghost use Rattle.trace.specs.Lines.{levels_in};
 ghost use Rattle.trace.specs.Sessions.{has_started};
 ghost use Rattle.playback.specs.States.{state, at_first};
 ghost use Rattle.playback.specs.Traces.{PlaysLines, Replays};

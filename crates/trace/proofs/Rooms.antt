@@ -25,11 +25,10 @@ use Rattle.listing.specs.declared.listed.Listed.{Listed}
 use Rattle.listing.specs.declared.listed.Listed.TheVariants.{Accepted, Answered, Restored, Refused}
 use Rattle.listing.specs.declared.listed.ShortBuffer.{ShortBuffer}
 use Rattle.listing.specs.Listing.{answer_room, room, Writes}
-use Rattle.trace_calls.specs.declared.fault.TraceFault.{TraceFault}
-use Rattle.trace_calls.specs.declared.fault.TraceFault.TheVariants.{Text, Machine, Saved}
-use Rattle.trace_calls.specs.Calls.{Levels, Called, Saves, Restores}
-use Rattle.trace_commands.specs.Commands.{Traced, Obeys}
-use Rattle.trace.specs.Lines.{Reroutes, SetsUp, PlaysSetup, PlaysCommand, Plays, Steps}
+use Rattle.trace.specs.declared.fault.TraceFault.{TraceFault}
+use Rattle.trace.specs.declared.fault.TraceFault.TheVariants.{Text, Machine, Saved}
+use Rattle.trace.specs.Calls.{Levels, Called, Saves, Restores}
+use Rattle.trace.specs.Lines.{Traced, Obeys, Reroutes, SetsUp, PlaysSetup, PlaysCommand, Plays, Steps}
 use Rattle.trace.specs.Listing.{listed}
 
 -- ---- the answers of the machine

@@ -1,3 +1,5 @@
+pub mod Calls
 pub mod Lines
 pub mod Listing
 pub mod Sessions
+pub mod Stages

@@ -7,8 +7,8 @@ use Rattle.listing.specs.declared.listed.Listed.{Listed}
 use Rattle.listing.specs.declared.listed.Listed.TheVariants.{Answered, Refused}
 use Rattle.listing.specs.declared.listed.ListedPlace.TheVariants as place
 use Rattle.machine.specs.Answering.{refusal}
-use Rattle.trace_calls.specs.declared.fault.TraceFault.{TraceFault}
-use Rattle.trace_calls.specs.declared.fault.TraceFault.TheVariants.{Text, Machine, Saved}
+use Rattle.trace.specs.declared.fault.TraceFault.{TraceFault}
+use Rattle.trace.specs.declared.fault.TraceFault.TheVariants.{Text, Machine, Saved}
 
 -- a refusal by its number and its place
 abbrev pub refused : TraceFault → Listed

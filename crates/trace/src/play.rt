@@ -1,13 +1,13 @@
 // One line of a trace, read and obeyed.
 ghost use Rattle.std.specs.Prelude.{◌≡◌, ℕ};
 ghost use Rattle.machine.specs.Whole.{model_of, ConsistentOf, ConsistentLaidOut};
-ghost use Rattle.trace_commands.specs.Commands.{levels_in, traced};
-ghost use Rattle.trace.specs.Lines.{SetsUp, PlaysSetup, PlaysCommand, Plays};
+ghost use Rattle.trace.specs.Lines.{levels_in, traced, SetsUp, PlaysSetup, PlaysCommand, Plays};
 ghost use Rattle.trace.specs.Sessions.{has_started, session_model, SessionConsistent};
-ghost use Rattle.trace_commands.specs.Stages.{head_stage, root_stage};
+ghost use Rattle.trace.specs.Stages.{head_stage, root_stage};
 
-use crate::Session;
+use crate::obey::obey;
 use crate::setup::reroute;
+use crate::{Session, TraceFault};
 use controller::Controller;
 use level_stack::LevelStack;
 use levels::{BsdLevel, Class};
@@ -17,8 +17,6 @@ use routes::Route;
 use spl::{HeadPolicy, RootPolicy, Spl};
 use stage::Stage;
 use stall::Stall;
-use trace_calls::TraceFault;
-use trace_commands::obey;
 use trace_lines::{Command, Setup, read_command, read_setup};
 
 // What a line left and answered.

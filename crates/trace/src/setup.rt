@@ -3,12 +3,12 @@ ghost use Rattle.std.specs.Prelude.{◌≡◌, ℕ};
 ghost use Rattle.machine.specs.Whole.{model_of, ConsistentLaidOut};
 ghost use Rattle.trace.specs.Lines.{Reroutes};
 
+use crate::TraceFault;
 use controller::Controller;
 use listing::Listed;
 use machine::{LaidOut, Machine};
 use routes::Route;
 use stage::Stage;
-use trace_calls::TraceFault;
 
 // Sets the route of a line.
 pub(crate) fn reroute<H: Controller, A: Stage, B: Stage>(

@@ -1,13 +1,12 @@
 // One line of a trace, played and listed.
 ghost use Rattle.std.specs.Prelude.{◌≡◌, ℕ, length, nat_lt};
-ghost use Rattle.trace_commands.specs.Commands.{levels_in, traced};
-ghost use Rattle.trace.specs.Lines.{Steps};
+ghost use Rattle.trace.specs.Lines.{levels_in, traced, Steps};
 ghost use Rattle.trace.specs.Listing.{listed, refused};
 ghost use Rattle.trace.specs.Sessions.{has_started, session_model, SessionConsistent};
-ghost use Rattle.trace_commands.specs.Stages.{head_stage, root_stage};
+ghost use Rattle.trace.specs.Stages.{head_stage, root_stage};
 
-use crate::Session;
 use crate::play::{Played, play_line};
+use crate::{Session, TraceFault};
 use controller::Controller;
 use level_stack::LevelStack;
 use levels::{BsdLevel, Class};
@@ -15,7 +14,6 @@ use listing::{Listed, ListedPlace, ShortBuffer, write_line};
 use model::{Answer, Place};
 use spl::{HeadPolicy, RootPolicy, Spl};
 use stall::Stall;
-use trace_calls::TraceFault;
 
 // The machine after a step, and how many bytes the step wrote.
 pub struct Stepped<H, A, B> {

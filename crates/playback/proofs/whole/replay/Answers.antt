@@ -1,5 +1,5 @@
 use Rattle.std.proofs.Common.{vec_items}
-use Rattle.trace_commands.specs.Commands.{levels_in}
+use Rattle.trace.specs.Lines.{levels_in}
 use Rattle.trace.specs.Sessions.{has_started}
 use Rattle.playback.specs.States.{state}
 use Rattle.playback.proofs.Replaying.{replays_from_first, is_first}
@@ -13,5 +13,5 @@ returns c =
     let b = levels_in c.over-root.result.places.now c.over-root.result.used in
     replays_from_first (has_started c.new.result.session) (has_started end) (state c.new.result.session a b)
     (state end (levels_in p.head.places.now p.head.used) (levels_in p.root.places.now p.root.used)) c.args.trace.now (vec_items c.new-listing.result) (vec_items p.listing)
-    c.new.ensures.off (is_first c.new.result.session a b c.new.ensures c.over-head.ensures.1.0 c.over-head.ensures.0 c.over-root.ensures.1.0 c.over-root.ensures.0)
+    c.new.ensures.off (is_first c.new.result.session a b c.new.ensures c.over-head.ensures.places c.over-head.ensures.empty c.over-root.ensures.places c.over-root.ensures.empty)
     c.new-listing.ensures.items c.new.ensures.fresh c.in_ok-_left.ensures.plays

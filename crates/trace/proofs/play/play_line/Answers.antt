@@ -1,9 +1,8 @@
 use Rattle.std.proofs.Common.{true, sym, refl, subst}
 use Rattle.machine.specs.Whole.{model_of}
-use Rattle.trace_commands.specs.Commands.{levels_in, traced}
-use Rattle.trace.specs.Lines.{Plays}
+use Rattle.trace.specs.Lines.{levels_in, traced, Plays}
 use Rattle.trace.specs.Sessions.{has_started, session_model}
-use Rattle.trace_commands.specs.Stages.{head_stage, root_stage}
+use Rattle.trace.specs.Stages.{head_stage, root_stage}
 use Rattle.trace.proofs.play.play_line.Goals as goal
 
 pub returns-in-LaidOut : goal.returns-in-LaidOut

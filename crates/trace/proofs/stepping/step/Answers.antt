@@ -1,9 +1,9 @@
 use Rattle.std.proofs.Common.{length, sym, subst}
 use Rattle.std.proofs.lemmas.Bool.{ltb-false}
 use Rattle.listing.specs.Listing.{Writes}
-use Rattle.trace_commands.specs.Commands.{levels_in, traced}
+use Rattle.trace.specs.Lines.{levels_in, traced}
 use Rattle.trace.specs.Sessions.{has_started, session_model}
-use Rattle.trace_commands.specs.Stages.{head_stage, root_stage}
+use Rattle.trace.specs.Stages.{head_stage, root_stage}
 use Rattle.trace.proofs.Rooms.{steps}
 use Rattle.trace.proofs.stepping.step.Goals as goal
 

@@ -1,6 +1,6 @@
 use Rattle.std.proofs.Common.{◌≡◌, ◌-◌, ◌≤◌, ◌++◌, length, take, replicate, vec_items, ap, ◌∙◌, arith}
 use native.Mathlib.Nat.{sub-zero}
-use Rattle.trace_commands.specs.Commands.{levels_in}
+use Rattle.trace.specs.Lines.{levels_in}
 use Rattle.trace.specs.Sessions.{has_started}
 use Rattle.playback.specs.States.{state}
 use Rattle.playback.proofs.Playing.{plays_one, steps_lists}

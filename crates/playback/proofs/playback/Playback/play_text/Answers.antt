@@ -1,6 +1,6 @@
 use Rattle.std.proofs.Common.{vec_items, ◌∙◌}
 use Rattle.std.proofs.lemmas.List.{take_rest}
-use Rattle.trace_commands.specs.Commands.{levels_in}
+use Rattle.trace.specs.Lines.{levels_in}
 use Rattle.trace.specs.Sessions.{has_started}
 use Rattle.playback.specs.States.{state}
 use Rattle.playback.proofs.Looping.{plays_last}

@@ -1,6 +1,6 @@
 use Rattle.std.proofs.Common.{◌-◌, ◌++◌, length, take, drop, vec_items, refl, ap, ◌∙◌}
 use Rattle.std.proofs.lemmas.List.{take_rest}
-use Rattle.trace_commands.specs.Commands.{levels_in}
+use Rattle.trace.specs.Lines.{levels_in}
 use Rattle.trace.specs.Sessions.{has_started}
 use Rattle.playback.specs.States.{state}
 use Rattle.playback.proofs.Joining.{feeds_none, feeds_some}

@@ -1,5 +1,5 @@
 use Rattle.std.proofs.Common.{vec_items}
-use Rattle.trace_commands.specs.Commands.{levels_in}
+use Rattle.trace.specs.Lines.{levels_in}
 use Rattle.trace.specs.Sessions.{has_started}
 use Rattle.playback.specs.States.{state}
 use Rattle.playback.proofs.Joining.{finishes_by}

@@ -4,7 +4,7 @@ use Rattle.model.specs.declared.calls.Call.TheVariants.{To as to}
 use Rattle.model.specs.declared.calls.Answer.TheVariants.{WasAtLevel}
 use Rattle.model.specs.Machine.{Step}
 use Rattle.machine.specs.Whole.{model_of}
-use Rattle.trace_calls.proofs.saved.restore_level.Goals as goal
+use Rattle.trace.proofs.saved.restore_level.Goals as goal
 
 pub returns : goal.returns
 returns g c =

@@ -1,15 +1,14 @@
 // The commands that set a level, with a stack of the saved ones.
 ghost use Rattle.std.specs.Prelude.{◌≡◌, ℕ, ◌<◌};
 ghost use Rattle.machine.specs.Whole.{model_of, ConsistentOf};
-ghost use Rattle.trace_calls.specs.declared.fault.TraceFault.TheVariants.{Machine as machine_fault};
-ghost use Rattle.trace_calls.specs.Calls.{Linked, unknown_level, without_last, Settable, SetsAgain, Saves, Restores};
+ghost use Rattle.trace.specs.declared.fault.TraceFault.TheVariants.{Machine as machine_fault};
+ghost use Rattle.trace.specs.Calls.{Linked, unknown_level, without_last, Settable, SetsAgain, Saves, Restores};
 
 use crate::TraceFault;
 use controller::Controller;
 use level_stack::{LevelStack, StackFault};
 use listing::Listed;
-use machine::{Machine, Running};
-use machine_faults::{Fault, MachineFault};
+use machine::{Fault, Machine, MachineFault, Running};
 use model::{Answer, Kernel, Place};
 use spl::{LevelFault, Policy};
 use stage::Stage;
@@ -24,7 +23,7 @@ fn unknown(kernel: Kernel) -> TraceFault
 }
 
 // Sets the level that the code names, and saves the former one.
-pub fn set_level<P: Policy, H: Controller, A: Stage, B: Stage>(
+pub(crate) fn set_level<P: Policy, H: Controller, A: Stage, B: Stage>(
     policy: &P,
     machine: &mut Machine<Running, H, A, B>,
     saved: &mut LevelStack<'_, P::Kind>,
@@ -87,7 +86,7 @@ fn set_again<H: Controller, A: Stage, B: Stage>(
 }
 
 // Sets the level that was saved last.
-pub fn restore_level<P: Policy, H: Controller, A: Stage, B: Stage>(
+pub(crate) fn restore_level<P: Policy, H: Controller, A: Stage, B: Stage>(
     policy: &P,
     machine: &mut Machine<Running, H, A, B>,
     saved: &mut LevelStack<'_, P::Kind>,

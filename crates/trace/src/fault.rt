@@ -1,9 +1,9 @@
 // Why a line of a trace is refused.
 ghost use Rattle.std.specs.Prelude.{◌≡◌};
-ghost use Rattle.trace_calls.specs.declared.fault.TraceFault.TheVariants.{Text, Machine};
+ghost use Rattle.trace.specs.declared.fault.TraceFault.TheVariants.{Text, Machine};
 
 use level_stack::StackFault;
-use machine_faults::MachineFault;
+use machine::MachineFault;
 use model::Kernel;
 use trace_lines::TextFault;
 

@@ -17,8 +17,8 @@ use Rattle.level_stack.specs.declared.fault.StackFault.TheVariants.{Full, Empty}
 use Rattle.level_stack.specs.Stacks.{Last}
 use Rattle.listing.specs.declared.listed.Listed.{Listed}
 use Rattle.listing.specs.declared.listed.Listed.TheVariants.{Accepted, Answered, Restored, Refused}
-use Rattle.trace_calls.specs.declared.fault.TraceFault.{TraceFault}
-use Rattle.trace_calls.specs.declared.fault.TraceFault.TheVariants.{Text, Machine, Saved}
+use Rattle.trace.specs.declared.fault.TraceFault.{TraceFault}
+use Rattle.trace.specs.declared.fault.TraceFault.TheVariants.{Text, Machine, Saved}
 
 -- the saved levels of a kernel: the places of its stack, and how many of them are used
 pub record Levels (L : Type 0) : Type 0 where

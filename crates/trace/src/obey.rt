@@ -1,9 +1,10 @@
 // The commands after the start.
 ghost use Rattle.std.specs.Prelude.{◌≡◌, ℕ};
 ghost use Rattle.machine.specs.Whole.{model_of, ConsistentOf};
-ghost use Rattle.trace_commands.specs.Commands.{levels_in, traced, Obeys};
-ghost use Rattle.trace_commands.specs.Stages.{head_stage, root_stage};
+ghost use Rattle.trace.specs.Lines.{levels_in, traced, Obeys};
+ghost use Rattle.trace.specs.Stages.{head_stage, root_stage};
 
+use crate::{TraceFault, calls, saved};
 use controller::Controller;
 use level_stack::LevelStack;
 use levels::{BsdLevel, Class};
@@ -13,7 +14,6 @@ use model::{Answer, Kernel};
 use spl::{HeadPolicy, RootPolicy, Spl};
 use stage::Stage;
 use stall::Stall;
-use trace_calls::{TraceFault, calls, saved};
 use trace_lines::Command;
 
 // Sets the level of a kernel, and saves the former one on its stack.
@@ -54,7 +54,7 @@ fn restore_level<H: Controller, C: Controller, D: Controller>(
 }
 
 // Obeys a command: a call of the machine, or a level set with the stack of the kernel.
-pub fn obey<H: Controller, C: Controller, D: Controller>(
+pub(crate) fn obey<H: Controller, C: Controller, D: Controller>(
     machine: &mut Machine<Running, H, Stall<Spl<HeadPolicy, C>>, Stall<Spl<RootPolicy, D>>>,
     head: &mut LevelStack<'_, Class>,
     root: &mut LevelStack<'_, BsdLevel>,

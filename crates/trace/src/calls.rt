@@ -3,7 +3,7 @@ ghost use Rattle.std.specs.Prelude.{◌≡◌, ℕ, Ok};
 ghost use Rattle.model.specs.declared.calls.StageCall.TheVariants.{Done as done_call, Mask as mask_call, Stall as stall_call, Unstall as unstall_call};
 ghost use Rattle.model.specs.declared.calls.Call.TheVariants.{Raise as raise_call, MaskHardware as hardware_call, Pump as pump_call, Next as next_call, To as to_call};
 ghost use Rattle.machine.specs.Whole.{model_of, ConsistentOf};
-ghost use Rattle.trace_calls.specs.Calls.{Called};
+ghost use Rattle.trace.specs.Calls.{Called};
 
 use crate::TraceFault;
 use controller::Controller;
@@ -13,7 +13,7 @@ use machine::{Machine, Next, Running};
 use model::{Answer, Kernel};
 use stage::Stage;
 
-pub fn raise<H: Controller, A: Stage, B: Stage>(
+pub(crate) fn raise<H: Controller, A: Stage, B: Stage>(
     machine: &mut Machine<Running, H, A, B>,
     line: u8,
 ) -> Result<Listed, TraceFault>
@@ -25,7 +25,7 @@ pub fn raise<H: Controller, A: Stage, B: Stage>(
     Ok(Listed::Answered(Answer::Raised(raised)))
 }
 
-pub fn mask_hardware<H: Controller, A: Stage, B: Stage>(
+pub(crate) fn mask_hardware<H: Controller, A: Stage, B: Stage>(
     machine: &mut Machine<Running, H, A, B>,
     set: LineSet,
 ) -> Result<Listed, TraceFault>
@@ -37,7 +37,7 @@ pub fn mask_hardware<H: Controller, A: Stage, B: Stage>(
     Ok(Listed::Answered(Answer::Masked))
 }
 
-pub fn mask<H: Controller, A: Stage, B: Stage>(
+pub(crate) fn mask<H: Controller, A: Stage, B: Stage>(
     machine: &mut Machine<Running, H, A, B>,
     kernel: Kernel,
     set: LineSet,
@@ -50,7 +50,7 @@ pub fn mask<H: Controller, A: Stage, B: Stage>(
     Ok(Listed::Answered(Answer::Masked))
 }
 
-pub fn pump<H: Controller, A: Stage, B: Stage>(
+pub(crate) fn pump<H: Controller, A: Stage, B: Stage>(
     machine: &mut Machine<Running, H, A, B>,
     n: u8,
 ) -> Result<Listed, TraceFault>
@@ -65,7 +65,7 @@ pub fn pump<H: Controller, A: Stage, B: Stage>(
     }))
 }
 
-pub fn next<H: Controller, A: Stage, B: Stage>(
+pub(crate) fn next<H: Controller, A: Stage, B: Stage>(
     machine: &mut Machine<Running, H, A, B>,
     kernel: Kernel,
 ) -> Listed
@@ -84,7 +84,7 @@ pub fn next<H: Controller, A: Stage, B: Stage>(
     Listed::Answered(answer)
 }
 
-pub fn done<H: Controller, A: Stage, B: Stage>(
+pub(crate) fn done<H: Controller, A: Stage, B: Stage>(
     machine: &mut Machine<Running, H, A, B>,
     kernel: Kernel,
 ) -> Result<Listed, TraceFault>

@@ -2,7 +2,7 @@ use Rattle.std.proofs.Common.{sym, subst}
 use Rattle.model.specs.declared.calls.Answer.TheVariants.{Delivered, Held, Busy}
 use Rattle.model.specs.Machine.{Nexts}
 use Rattle.machine.specs.Whole.{model_of}
-use Rattle.trace_calls.proofs.calls.next.Goals as goal
+use Rattle.trace.proofs.calls.next.Goals as goal
 
 pub returns-in-Head : goal.returns-in-Head
 returns-in-Head g c =
