@@ -11,16 +11,17 @@ use controller::{Controller, ControllerFault, Raised, Ranking};
 use levels::Level;
 use lines::LineSet;
 
+// Every value is in order: its sets lie within its lines, and no two lines in service have equal levels.
 #[derive(Drop)]
 pub struct Bank<R: Registers> {
     registers: R,
+    ghost sound: { Sound (bank_view R.Registers.wired R.Ranking.order (R.Registers.contents registers)) },
 }
 
 impl<R: Registers> Bank<R> {
     // A controller with its four sets empty.
     pub fn new() -> Self
-        ensures consistent { Sound (bank_view R.Registers.wired R.Ranking.order (R.Registers.contents result.registers)) }
-        ensures empty { bank_view R.Registers.wired R.Ranking.order (R.Registers.contents result.registers) ≡ fresh R.Registers.wired R.Ranking.order }
+        ensures { bank_view R.Registers.wired R.Ranking.order (R.Registers.contents result.registers) ≡ fresh R.Registers.wired R.Ranking.order }
     {
         Bank {
             registers: R::cleared(),
@@ -35,7 +36,7 @@ impl<R: Registers> Bank<R> {
     }
 }
 
-// What a raise answers, by whether the line was pending before.
+// What a raise answers, by whether the line was pending before. No From: a bool alone says nothing of requests.
 fn raised(before: bool) -> Raised
     ensures { result ≡ (if before then Merged else New) }
 {
@@ -61,13 +62,11 @@ impl<R: Registers> Controller for Bank<R> {
 
     ghost view = { λ s. bank_view R.Registers.wired R.Ranking.order (R.Registers.contents s.registers) };
 
-    ghost consistent = { λ s. Sound (bank_view R.Registers.wired R.Ranking.order (R.Registers.contents s.registers)) };
-
     ghost ranks = { λ s. R.Ranking.ranks };
 
     ghost ordered = { Prim.search rules };
 
-    ghost sound = { Prim.search rules };
+    ghost sound = { λ s. s.sound };
 
     fn lines(&self) -> LineSet {
         R::wired()
@@ -121,12 +120,10 @@ impl<R: Registers> Controller for Bank<R> {
     }
 
     fn end(&mut self) -> Result<u8, ControllerFault> {
-        match self.registers.serving() {
-            Some(line) => {
-                self.registers.retire(line);
-                Ok(line)
-            }
-            None => Err(ControllerFault::NothingInService),
-        }
+        let Some(line) = self.registers.serving() else {
+            return Err(ControllerFault::NothingInService);
+        };
+        self.registers.retire(line);
+        Ok(line)
     }
 }

@@ -9,9 +9,8 @@ use Rattle.pending_log.specs.Places.{place_order}
 use Rattle.spl.specs.Head.{head_class, head_lowest, head_code, head_named}
 use Rattle.spl.specs.Root.{root_level, root_code, root_named}
 use Rattle.model.specs.declared.calls.Call.{Call}
-use Rattle.model.specs.declared.calls.Answer.{Answer}
 use Rattle.model.specs.Stage.{PolicyModel, StageModel}
-use Rattle.model.specs.Machine.{MachineModel}
+use Rattle.model.specs.Machine.{MachineModel, Reply}
 use Rattle.model.specs.Run.{Fresh, Routable}
 use Rattle.model.specs.Promises.{RunPromises}
 use Rattle.stage.specs.Layers.{coded_policy}
@@ -33,10 +32,10 @@ log_stage p = record { own = as_made all_lines place_order; policy = p; level = 
 abbrev pub cabinet : MachineModel
 cabinet = machine (as_made pair_lines pair_order) (log_stage head_policy) (log_stage root_policy) (default_routes pair_lines all_lines)
 
--- the answers to a list of calls are those of a run from a fresh start, and the promises hold of it
-pub record Plays (m : MachineModel) (calls : List Call) (answers : List Answer) : Type 0 where
+-- the replies to a list of calls are those of a run from a fresh start, and the promises hold of it
+pub record Plays (m : MachineModel) (calls : List Call) (replies : List Reply) : Type 0 where
   pub fresh : Fresh m
   pub routable : Routable m
-  pub all : length answers ≡ length calls
+  pub all : length replies ≡ length calls
   pub left : MachineModel
-  pub promises : RunPromises m (entries calls answers) left
+  pub promises : RunPromises m (entries calls replies) left

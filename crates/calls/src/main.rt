@@ -1,16 +1,18 @@
 // Plays a short list of calls on the cabinet's machine, and prints each call with its answer.
 #![tactic(auto)]
 
-use controller::Raised;
+mod shown;
+
 use lines::LineSet;
 use machine::{Machine, run};
-use model::{Answer, Call, Kernel, Place, Question, StageCall};
+use model::{Call, Kernel, Place, Question, StageCall};
 use optimistic::Optimistic;
 use pair8259::Pair8259;
 use pending_log::PendingLog;
 use routes::Route;
+use shown::Shown;
 use spl::{HeadPolicy, RootPolicy};
-use stage::{Stage, on};
+use stage::on;
 
 // Line 0 goes to both kernels and line 3 to the head alone; line 1 has no route, and goes to the root.
 const CALLS: [Call; 24] = [
@@ -40,87 +42,7 @@ const CALLS: [Call; 24] = [
     Call::Raise(8),
 ];
 
-fn kernel_name(kernel: Kernel) -> &'static str {
-    match kernel {
-        Kernel::Head => "head",
-        Kernel::Root => "root",
-    }
-}
-
-fn place_name(place: Place) -> &'static str {
-    match place {
-        Place::Hardware => "hardware",
-        Place::Kernel(kernel) => kernel_name(kernel),
-    }
-}
-
-fn question_name(question: Question) -> &'static str {
-    match question {
-        Question::Lines => "lines",
-        Question::Pending => "pending",
-        Question::Masked => "masked",
-        Question::Blocked => "blocked",
-        Question::InService => "in service",
-    }
-}
-
-fn print_stage_call(rt: &HostRuntime, kernel: Kernel, call: StageCall) -> anyhow::Result<()> {
-    let name = kernel_name(kernel);
-    match call {
-        StageCall::Done => print!(rt; "{name}: done")?,
-        StageCall::Mask(set) => print!(rt; "{name}: mask {:x}", set.bits)?,
-        StageCall::Stall => print!(rt; "{name}: stall")?,
-        StageCall::Unstall => print!(rt; "{name}: unstall")?,
-        StageCall::SetLevel(code) => print!(rt; "{name}: set level {code}")?,
-    }
-    Ok(())
-}
-
-fn print_call(rt: &HostRuntime, call: Call) -> anyhow::Result<()> {
-    match call {
-        Call::Raise(line) => print!(rt; "raise {line}")?,
-        Call::MaskHardware(set) => print!(rt; "mask {:x}", set.bits)?,
-        Call::Pump(n) => print!(rt; "pump {n}")?,
-        Call::Next(kernel) => print!(rt; "{}: next", kernel_name(kernel))?,
-        Call::To(kernel, call) => print_stage_call(rt, kernel, call)?,
-        Call::Ask(place, question) => {
-            print!(rt; "{}: {}?", place_name(place), question_name(question))?
-        }
-    }
-    Ok(())
-}
-
-fn print_answer(rt: &HostRuntime, answer: Answer) -> anyhow::Result<()> {
-    match answer {
-        Answer::Raised(Raised::New) => println!(rt; " -> new")?,
-        Answer::Raised(Raised::Merged) => println!(rt; " -> merged")?,
-        Answer::Masked => println!(rt; " -> ok")?,
-        Answer::Arrived { count, set } => println!(rt; " -> {count} {:x}", set.bits)?,
-        Answer::Delivered(Some(line)) => println!(rt; " -> {line}")?,
-        Answer::Delivered(None) => println!(rt; " -> none")?,
-        Answer::Held => println!(rt; " -> held")?,
-        Answer::Busy => println!(rt; " -> busy")?,
-        Answer::Ended(line) => println!(rt; " -> {line}")?,
-        Answer::WasStalled(stalled) => println!(rt; " -> {stalled}")?,
-        Answer::WasAtLevel(code) => println!(rt; " -> {code}")?,
-        Answer::Told(set) => println!(rt; " -> {:x}", set.bits)?,
-        Answer::Refused { number, place } => {
-            println!(rt; " -> refused, {number} {}", place_name(place))?
-        }
-    }
-    Ok(())
-}
-
-// The calls with their answers, a line for each.
-fn print_all(rt: &HostRuntime, answers: &[Answer]) -> anyhow::Result<()> {
-    for (call, answer) in CALLS.iter().zip(answers.iter()) {
-        print_call(rt, *call)?;
-        print_answer(rt, *answer)?;
-    }
-    Ok(())
-}
-
-// Lays the machine out, starts it, plays the calls, closes it and prints what is left.
+// Lays the machine out, of parts that are the example, starts it, plays the calls, closes it and prints what is left.
 fn start(rt: &HostRuntime) -> anyhow::Result<()> {
     let hardware = Optimistic::new(Pair8259::new());
     let head = on(HeadPolicy, PendingLog::new());
@@ -139,8 +61,10 @@ fn start(rt: &HostRuntime) -> anyhow::Result<()> {
     let _ = machine.route(0, both);
     let _ = machine.route(3, head_only);
     let mut machine = machine.start();
-    let answers = run(rt.alloc(), &mut machine, &CALLS)?;
-    print_all(rt, &answers)?;
+    let replies = run(rt.alloc(), &mut machine, &CALLS)?;
+    for (call, reply) in CALLS.iter().zip(replies.iter()) {
+        println!(rt; "{} -> {}", Shown(*call), Shown(*reply))?;
+    }
     let closed = machine.close();
     for place in [
         Place::Hardware,
@@ -149,9 +73,9 @@ fn start(rt: &HostRuntime) -> anyhow::Result<()> {
     ] {
         println!(rt;
             "{}: pending {:x}, in service {:x}",
-            place_name(place),
-            closed.ask(place, Question::Pending).bits,
-            closed.ask(place, Question::InService).bits
+            Shown(place),
+            closed.ask(place, Question::Pending),
+            closed.ask(place, Question::InService)
         )?;
     }
     Ok(())

@@ -40,7 +40,7 @@ pub record Deliverable (v : View) (n : ℕ) : Type 0 where
 abbrev pub Serving : View → ℕ → Type 0
 Serving v n = has v.in_service n ≡ true
 
--- what every consistent controller tells: at least one line, all below 64, and sets within them; no two lines in service of equal level
+-- what every controller tells: at least one line, all below 64, and sets within them; no two lines in service of equal level
 pub record Sound (v : View) : Type 0 where
   pub order : WeakOrder v.above
   pub small : (n : ℕ) → has v.lines n ≡ true → n < 64

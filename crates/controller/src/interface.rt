@@ -15,10 +15,7 @@ pub trait Controller {
     // what it tells
     ghost view: { Self → View };
 
-    // that it is in order; it is made so, and each call keeps it so
-    ghost consistent: { Self → Type 0 };
-
-    // the level of each line
+    // the level of each line; a controller may be made with levels of its own, so each call says that they stay
     ghost ranks: { Self → ℕ → Self.Level };
 
     // Its lines.
@@ -47,34 +44,27 @@ pub trait Controller {
 
     // The line is pending from now on; NoSuchLine if the controller lacks it.
     fn raise(&mut self, line: u8) -> Result<Raised, ControllerFault>
-        requires { consistent self.old }
-        ensures keeps { consistent self.new }
         ensures fixed { ranks self.new ≡ ranks self.old }
         ensures leaves { Raises (view self.old) line result (view self.new) };
 
     // The masked lines are from now on those of the set; MaskOutside if it has a line that the controller lacks.
     fn mask(&mut self, set: LineSet) -> Result<(), ControllerFault>
-        requires { consistent self.old }
-        ensures keeps { consistent self.new }
         ensures fixed { ranks self.new ≡ ranks self.old }
         ensures leaves { Masks (view self.old) set.bits result (view self.new) };
 
     // The first deliverable line goes from pending into service; none if no line is deliverable.
     fn take(&mut self) -> Option<u8>
-        requires { consistent self.old }
-        ensures keeps { consistent self.new }
         ensures fixed { ranks self.new ≡ ranks self.old }
         ensures leaves { Takes (view self.old) result (view self.new) };
 
     // The first line in service leaves service; NothingInService if there is none.
     fn end(&mut self) -> Result<u8, ControllerFault>
-        requires { consistent self.old }
-        ensures keeps { consistent self.new }
         ensures fixed { ranks self.new ≡ ranks self.old }
         ensures leaves { Ends (view self.old) result (view self.new) };
 
     // the order that it tells is the order of the lines' levels
     ghost ordered: { (s : Self) (a b : ℕ) → (view s).above a b ≡ Self.Level.Level.above (ranks s a) (ranks s b) };
 
-    ghost sound: { (s : Self) → consistent s → Sound (view s) };
+    // every value is in order, as it is made and after each call
+    ghost sound: { (s : Self) → Sound (view s) };
 }

@@ -3,7 +3,6 @@
 
 mod fault;
 mod interface;
-mod number;
 mod pick;
 
 pub use fault::{ControllerFault, Raised};

@@ -36,10 +36,7 @@ fn goes_before<R: Ranking>(a: u8, b: u8) -> bool
 fn better<R: Ranking>(best: Option<u8>, line: u8) -> u8
     ensures { result ≡ winner (ahead_by R.Ranking.order) best line }
 {
-    match best {
-        Some(b) if goes_before::<R>(b, line) => b,
-        _ => line,
-    }
+    best.filter(|b| goes_before::<R>(*b, line)).unwrap_or(line)
 }
 
 // The first of the lines of the set.
@@ -57,14 +54,6 @@ pub fn first_of<R: Ranking>(set: LineSet) -> Option<u8>
 pub fn first_over<R: Ranking>(set: LineSet, under: LineSet) -> Option<u8>
     ensures { Picks (ahead_by R.Ranking.order) (Over R.Ranking.order set.bits under.bits) result }
 {
-    match (first_of::<R>(set), first_of::<R>(under)) {
-        (Some(n), Some(m)) => {
-            if R::level_of(n).is_above(R::level_of(m)) {
-                Some(n)
-            } else {
-                None
-            }
-        }
-        (first, _) => first,
-    }
+    let highest = first_of::<R>(under);
+    first_of::<R>(set).filter(|n| highest.is_none_or(|m| R::level_of(*n).is_above(R::level_of(m))))
 }

@@ -18,14 +18,14 @@ mod tests {
     #[test]
     fn optimistic_on_pair(rt: HostRuntime) {
         let mut layer = Optimistic::new(Pair8259::new());
-        assert!(rt; layer.mask(LineSet::new(0x10)).is_ok());
-        assert!(rt; matches!(layer.raise(4), Ok(Raised::New)));
+        assert_eq!(rt; layer.mask(LineSet::new(0x10)), Ok(()));
+        assert_eq!(rt; layer.raise(4), Ok(Raised::New));
         assert_eq!(rt; layer.take(), None);
-        assert_eq!(rt; layer.below().masked().bits, 0x10);
-        assert!(rt; matches!(layer.raise(4), Ok(Raised::Merged)));
-        assert!(rt; layer.mask(LineSet::EMPTY).is_ok());
+        assert_eq!(rt; layer.below().masked(), LineSet::new(0x10));
+        assert_eq!(rt; layer.raise(4), Ok(Raised::Merged));
+        assert_eq!(rt; layer.mask(LineSet::EMPTY), Ok(()));
         assert_eq!(rt; layer.take(), Some(4));
-        assert!(rt; matches!(layer.end(), Ok(4)));
+        assert_eq!(rt; layer.end(), Ok(4));
         assert_eq!(rt; layer.take(), None);
     }
 
@@ -33,29 +33,29 @@ mod tests {
     #[test]
     fn nothing_to_log(rt: HostRuntime) {
         let mut layer = Optimistic::new(Pair8259::new());
-        assert!(rt; layer.mask(LineSet::new(0x10)).is_ok());
+        assert_eq!(rt; layer.mask(LineSet::new(0x10)), Ok(()));
         assert_eq!(rt; layer.take(), None);
-        assert_eq!(rt; layer.below().masked().bits, 0);
+        assert_eq!(rt; layer.below().masked(), LineSet::EMPTY);
     }
 
     // The mask of the controller below is taken over.
     #[test]
     fn optimistic_on_a_masked_pair(rt: HostRuntime) {
         let mut pair = Pair8259::new();
-        assert!(rt; pair.mask(LineSet::new(0x10)).is_ok());
+        assert_eq!(rt; pair.mask(LineSet::new(0x10)), Ok(()));
         let layer = Optimistic::new(pair);
-        assert_eq!(rt; layer.soft_mask().bits, 0x10);
-        assert_eq!(rt; layer.below().masked().bits, 0);
+        assert_eq!(rt; layer.soft_mask(), LineSet::new(0x10));
+        assert_eq!(rt; layer.below().masked(), LineSet::EMPTY);
     }
 
     // A line at the current level stays blocked, and one above it comes.
     #[test]
     fn spl_on_vectored(rt: HostRuntime) {
         let mut layer = Spl::new(RootPolicy, Vectored::new());
-        assert!(rt; matches!(layer.set_level(BsdLevel::Net), Ok(BsdLevel::None)));
-        assert!(rt; matches!(layer.raise(5), Ok(Raised::New)));
+        assert_eq!(rt; layer.set_level(BsdLevel::Net), Ok(BsdLevel::None));
+        assert_eq!(rt; layer.raise(5), Ok(Raised::New));
         assert_eq!(rt; layer.take(), None);
-        assert!(rt; matches!(layer.raise(4), Ok(Raised::New)));
+        assert_eq!(rt; layer.raise(4), Ok(Raised::New));
         assert_eq!(rt; layer.take(), Some(4));
     }
 
@@ -63,22 +63,22 @@ mod tests {
     #[test]
     fn head_levels(rt: HostRuntime) {
         let mut layer = Spl::new(HeadPolicy, Vectored::new());
-        assert!(rt; matches!(layer.set_level(Class(5)), Err(LevelFault::NoSuchLevel)));
-        assert!(rt; matches!(layer.set_level(Class(4)), Ok(Class(0))));
-        assert!(rt; layer.blocked() == LineSet::ALL);
-        assert!(rt; LevelFault::NoSuchLevel.number() == 4);
+        assert_eq!(rt; layer.set_level(Class(5)), Err(LevelFault::NoSuchLevel));
+        assert_eq!(rt; layer.set_level(Class(4)), Ok(Class(0)));
+        assert_eq!(rt; layer.blocked(), LineSet::ALL);
+        assert_eq!(rt; LevelFault::NoSuchLevel.number(), 4);
     }
 
     // A line logged by the upper layer is masked by the lower one, and comes once when it is freed.
     #[test]
     fn optimistic_twice(rt: HostRuntime) {
         let mut layer = Optimistic::new(Optimistic::new(PendingLog::new()));
-        assert!(rt; layer.mask(LineSet::new(0x10)).is_ok());
-        assert!(rt; matches!(layer.raise(4), Ok(Raised::New)));
+        assert_eq!(rt; layer.mask(LineSet::new(0x10)), Ok(()));
+        assert_eq!(rt; layer.raise(4), Ok(Raised::New));
         assert_eq!(rt; layer.take(), None);
-        assert_eq!(rt; layer.below().soft_mask().bits, 0x10);
-        assert_eq!(rt; layer.below().below().masked().bits, 0);
-        assert!(rt; layer.mask(LineSet::EMPTY).is_ok());
+        assert_eq!(rt; layer.below().soft_mask(), LineSet::new(0x10));
+        assert_eq!(rt; layer.below().below().masked(), LineSet::EMPTY);
+        assert_eq!(rt; layer.mask(LineSet::EMPTY), Ok(()));
         assert_eq!(rt; layer.take(), Some(4));
     }
 
@@ -86,15 +86,15 @@ mod tests {
     #[test]
     fn stall_on_spl_on_optimistic(rt: HostRuntime) {
         let mut spl = Spl::new(RootPolicy, Optimistic::new(PendingLog::new()));
-        assert!(rt; matches!(spl.set_level(BsdLevel::Net), Ok(BsdLevel::None)));
+        assert_eq!(rt; spl.set_level(BsdLevel::Net), Ok(BsdLevel::None));
         let mut layers = Stall::new(spl);
         assert!(rt; !layers.stall());
-        assert!(rt; matches!(layers.raise(5), Ok(Raised::New)));
-        assert!(rt; matches!(layers.raise(4), Ok(Raised::New)));
+        assert_eq!(rt; layers.raise(5), Ok(Raised::New));
+        assert_eq!(rt; layers.raise(4), Ok(Raised::New));
         assert_eq!(rt; layers.take(), None);
         assert!(rt; layers.unstall());
         assert_eq!(rt; layers.take(), Some(4));
-        assert!(rt; matches!(layers.end(), Ok(4)));
+        assert_eq!(rt; layers.end(), Ok(4));
         assert_eq!(rt; layers.take(), None);
     }
 
@@ -102,11 +102,11 @@ mod tests {
     #[test]
     fn optimistic_on_stall_on_spl(rt: HostRuntime) {
         let mut layers = Optimistic::new(Stall::new(Spl::new(RootPolicy, Pair8259::new())));
-        assert!(rt; layers.mask(LineSet::new(0x102)).is_ok());
-        assert!(rt; matches!(layers.raise(1), Ok(Raised::New)));
-        assert!(rt; matches!(layers.raise(8), Ok(Raised::New)));
-        assert!(rt; matches!(layers.raise(3), Ok(Raised::New)));
+        assert_eq!(rt; layers.mask(LineSet::new(0x102)), Ok(()));
+        assert_eq!(rt; layers.raise(1), Ok(Raised::New));
+        assert_eq!(rt; layers.raise(8), Ok(Raised::New));
+        assert_eq!(rt; layers.raise(3), Ok(Raised::New));
         assert_eq!(rt; layers.take(), Some(3));
-        assert_eq!(rt; layers.log().bits, 0x102);
+        assert_eq!(rt; layers.log(), LineSet::new(0x102));
     }
 }

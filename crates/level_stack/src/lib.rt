@@ -2,7 +2,6 @@
 #![tactic(auto)]
 
 mod fault;
-mod number;
 mod stack;
 #[cfg(test)]
 mod tests;

@@ -1,10 +1,10 @@
 // The stack and its calls.
-ghost use Rattle.std.specs.Prelude.{◌≡◌, ℕ, ◌+◌, ◌-◌, ◌<◌, ◌≤◌, length, take, ◌==◌, slice_index_or, slice_set};
-ghost use Rattle.level_stack.specs.Stacks.{Pushes, Last, Pops};
+ghost use Rattle.std.specs.Prelude.{◌≡◌, ℕ, ◌≤◌, length, ◌==◌};
 
 use crate::StackFault;
 
 // The levels pushed stand in the first places, the first pushed first; `used` counts them.
+// The caller lends the places, which are fixed: nothing here allocates.
 #[derive(Drop)]
 pub struct LevelStack<'a, L> {
     places: &'a mut [L],
@@ -12,23 +12,9 @@ pub struct LevelStack<'a, L> {
     ghost within: { used ≤ length places.now },
 }
 
-// Writes one place of those lent.
-fn put<L: Copy>(places: &mut [L], at: usize, level: L)
-    requires { at < length places.old }
-    ensures { places.new ≡ slice_set places.old at level }
-{
-    places[at] = level;
-}
-
-// Reads one place of those lent.
-fn get<L: Copy>(places: &[L], at: usize) -> L
-    requires { at < length places.now }
-    ensures { result ≡ slice_index_or places.now at result }
-{
-    places[at]
-}
-
 impl<'a, L: Copy> LevelStack<'a, L> {
+    ghost use Rattle.level_stack.specs.Stacks.{levels_of, SamePlaces, Pushes, Last, Pops};
+
     // The empty stack over the places, whatever they hold.
     pub fn over(places: &'a mut [L]) -> Self
         ensures empty { result.used ≡ 0 }
@@ -54,45 +40,37 @@ impl<'a, L: Copy> LevelStack<'a, L> {
 
     // The levels held, the first pushed first.
     pub fn levels(&self) -> &[L]
-        ensures { result.now ≡ take self.now.used self.now.places.now }
+        ensures { result.now ≡ levels_of self.now }
     {
-        &self.places[0..self.used]
+        &self.places[..self.used]
     }
 
     // The level pushed last, or none.
     pub fn last(&self) -> Option<L>
         ensures { Last self.now.places.now self.now.used result }
     {
-        let end = self.used;
-        if end == 0 {
-            return None;
-        }
-        Some(get(self.places, end - 1))
+        self.levels().last().copied()
     }
 
     // Puts the level on the stack.
     pub fn push(&mut self, level: L) -> Result<(), StackFault>
-        ensures pushes { Pushes self.old.places.now self.old.used level result self.new.places.now self.new.used }
-        ensures lent { self.new.places.ghost_name ≡ self.old.places.ghost_name }
+        ensures pushes { Pushes self.old level result self.new }
+        ensures lent { SamePlaces self.old self.new }
     {
-        let LevelStack { places, used } = self;
-        let end = *used;
-        if end >= places.len() {
+        if self.is_full() {
             return Err(StackFault::Full);
         }
-        put(places, end, level);
-        *used = end + 1;
+        self.places[self.used] = level;
+        self.used += 1;
         Ok(())
     }
 
     // Takes the level pushed last off the stack.
     pub fn pop(&mut self) -> Result<L, StackFault>
-        ensures pops { Pops self.old.places.now self.old.used result self.new.places.now self.new.used }
-        ensures lent { self.new.places.ghost_name ≡ self.old.places.ghost_name }
+        ensures pops { Pops self.old result self.new }
+        ensures lent { SamePlaces self.old self.new }
     {
-        let Some(level) = self.last() else {
-            return Err(StackFault::Empty);
-        };
+        let level = self.last().ok_or(StackFault::Empty)?;
         self.used -= 1;
         Ok(level)
     }

@@ -1,9 +1,12 @@
 // Levels of interrupt lines and their order.
 #![tactic(auto)]
 
-ghost use Rattle.std.specs.Prelude.{◌≡◌, ℕ, ◌<◌, Bool, true, false, nat_lt};
-ghost use Rattle.levels.specs.Kinds.{code, Coded, pair_above};
+ghost use Rattle.std.specs.Prelude.{◌≡◌, ℕ, ◌<◌, Bool, true, false, nat_lt, Some, ◌++◌, codes, decimal};
+ghost use Rattle.levels.specs.Kinds.{code, Decodes, pair_above};
 ghost use Rattle.std.proofs.Common.{rules};
+
+use std::error::Error;
+use std::fmt;
 
 // A kind of level has an order: of two levels exactly one is above, or they are the same, and "above" carries through.
 pub trait Level: Copy {
@@ -23,7 +26,7 @@ pub trait Level: Copy {
 
 // The level of a line of two cascaded chips: the master's input and the slave's. The smaller master input is higher, and at
 // equal ones the smaller slave input.
-#[derive(Clone, Copy)]
+#[derive(Clone, Copy, Debug, PartialEq, Eq, PartialOrd, Ord)]
 pub struct PairLevel {
     pub master: u8,
     pub slave: u8,
@@ -39,12 +42,12 @@ impl Level for PairLevel {
     ghost transitive = { Prim.search rules };
 
     fn is_above(self, other: PairLevel) -> bool {
-        self.master < other.master || (self.master == other.master && self.slave < other.slave)
+        self < other
     }
 }
 
 // A priority class: the larger is higher.
-#[derive(Clone, Copy)]
+#[derive(Clone, Copy, Debug, PartialEq, Eq, PartialOrd, Ord)]
 pub struct Class(pub u8);
 
 impl Level for Class {
@@ -57,12 +60,12 @@ impl Level for Class {
     ghost transitive = { Prim.search rules };
 
     fn is_above(self, other: Class) -> bool {
-        other.0 < self.0
+        self > other
     }
 }
 
 // A place in a log: the smaller is higher.
-#[derive(Clone, Copy)]
+#[derive(Clone, Copy, Debug, PartialEq, Eq, PartialOrd, Ord)]
 pub struct LogPlace(pub u8);
 
 impl Level for LogPlace {
@@ -75,12 +78,12 @@ impl Level for LogPlace {
     ghost transitive = { Prim.search rules };
 
     fn is_above(self, other: LogPlace) -> bool {
-        self.0 < other.0
+        other > self
     }
 }
 
 // The BSD interrupt priority levels, lowest first.
-#[derive(Clone, Copy)]
+#[derive(Clone, Copy, Debug, PartialEq, Eq, PartialOrd, Ord)]
 pub enum BsdLevel {
     None,
     SoftClock,
@@ -99,24 +102,42 @@ impl BsdLevel {
     {
         self as u8
     }
+}
 
-    // The level that has the code, or none: a code is at most 7.
-    pub fn from_code(number: u8) -> Option<BsdLevel>
-        ensures { Coded number result }
-    {
-        match number {
-            0 => Some(BsdLevel::None),
-            1 => Some(BsdLevel::SoftClock),
-            2 => Some(BsdLevel::SoftNet),
-            3 => Some(BsdLevel::Bio),
-            4 => Some(BsdLevel::Net),
-            5 => Some(BsdLevel::Tty),
-            6 => Some(BsdLevel::Clock),
-            7 => Some(BsdLevel::High),
-            _ => None,
+// A code that no BSD level has.
+#[derive(Clone, Copy, Debug, PartialEq, Eq)]
+pub struct UnknownLevel(pub u8);
+
+// The level that has the code: a code is at most 7.
+impl TryFrom<u8> for BsdLevel {
+    type Error = UnknownLevel;
+
+    ghost try_from_gives = { Decodes };
+
+    fn try_from(code: u8) -> Result<BsdLevel, UnknownLevel> {
+        match code {
+            0 => Ok(BsdLevel::None),
+            1 => Ok(BsdLevel::SoftClock),
+            2 => Ok(BsdLevel::SoftNet),
+            3 => Ok(BsdLevel::Bio),
+            4 => Ok(BsdLevel::Net),
+            5 => Ok(BsdLevel::Tty),
+            6 => Ok(BsdLevel::Clock),
+            7 => Ok(BsdLevel::High),
+            _ => Err(UnknownLevel(code)),
         }
     }
 }
+
+impl fmt::Display for UnknownLevel {
+    ghost output = { λ e. Some (codes "no level has the code " ++ decimal e.0) };
+
+    fn fmt<W: fmt::Write>(&self, f: &mut fmt::Formatter<W>) -> fmt::Result {
+        write!(f, "no level has the code {}", self.0)
+    }
+}
+
+impl Error for UnknownLevel {}
 
 impl Level for BsdLevel {
     ghost above = { λ a b. nat_lt (code b) (code a) };
@@ -128,6 +149,6 @@ impl Level for BsdLevel {
     ghost transitive = { Prim.search rules };
 
     fn is_above(self, other: BsdLevel) -> bool {
-        (other as u8) < (self as u8)
+        other < self
     }
 }

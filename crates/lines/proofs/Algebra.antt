@@ -88,3 +88,6 @@ common_within s t w = ext _ _ (λ n. let k = w n in simp has-common (grind (arit
 -- a line put into a set of k lines
 pub with_small : (k s n : ℕ) → n < k → with_line k s n ≡ union s (only n)
 with_small k s n h = cond-true (ltb n k) _ _ (lt-ltb n k h)
+
+-- each line of s is in t exactly when none is left of s without t
+pub ruleset within = (within_from, from_within)

@@ -1,7 +1,6 @@
 // Sets of interrupt lines.
 #![tactic(auto)]
 
-mod bits;
 mod byte;
 mod line_set;
 

@@ -1,3 +1,4 @@
+pub mod Cursors
 pub mod Faults
 pub mod Listing
 pub mod Numbers

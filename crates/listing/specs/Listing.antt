@@ -1,15 +1,18 @@
 -- The lines of a listing.
-use Rattle.std.specs.Prelude.{◌≡◌, ℕ, ◌+◌, ◌<◌, ◌≤◌, Bool, true, false, cond, List, [], ◌∷◌, ◌++◌, length, take, drop, Some, None, Ok, Err, codes, Result, nat_le}
+use Rattle.std.specs.Prelude.{◌≡◌, ℕ, ◌<◌, ◌≤◌, Bool, true, false, cond, List, [], ◌∷◌, ◌++◌, length, drop, Some, None, Ok, Err, codes, Result, nat_le}
 use Rattle.controller.specs.declared.fault.Raised.TheVariants.{New, Merged}
 use Rattle.model.specs.declared.calls.Kernel.TheVariants.{Head, Root}
+use Rattle.model.specs.declared.calls.Place.{Place}
 use Rattle.model.specs.declared.calls.Place.TheVariants.{Hardware, Kernel}
 use Rattle.model.specs.declared.calls.Answer.{Answer}
 use Rattle.model.specs.declared.calls.Answer.TheVariants.{Raised, Masked, Arrived, Delivered, Held, Busy, Ended, WasStalled, WasAtLevel, Told}
-use Rattle.model.specs.declared.calls.Answer.TheVariants as answer
-use Rattle.listing.specs.declared.listed.ListedPlace.{ListedPlace}
-use Rattle.listing.specs.declared.listed.ListedPlace.TheVariants.{Machine, Text}
+use Rattle.level_stack.specs.Faults.{stack_fault_number}
+use Rattle.trace_lines.specs.Faults.{text_fault_number}
+use Rattle.model.specs.Refusals.{number_of}
+use Rattle.listing.specs.declared.listed.TraceFault.{TraceFault}
+use Rattle.listing.specs.declared.listed.TraceFault.TheVariants.{Text, Machine, Saved}
 use Rattle.listing.specs.declared.listed.Listed.{Listed}
-use Rattle.listing.specs.declared.listed.Listed.TheVariants.{Accepted, Answered, Restored, Refused}
+use Rattle.listing.specs.declared.listed.Listed.TheVariants.{Accepted, Answered, Restored}
 use Rattle.listing.specs.declared.listed.ShortBuffer.{ShortBuffer}
 use Rattle.listing.specs.Numbers.{written}
 
@@ -26,15 +29,20 @@ abbrev pub bit : Bool → List ℕ
 bit false = codes "0"
 bit true = codes "1"
 
--- c for the hardware, h for the head, r for the root, t for the text
-abbrev pub place_letter : ListedPlace → ℕ
-place_letter (Machine Hardware) = 99
-place_letter (Machine (Kernel Head)) = 104
-place_letter (Machine (Kernel Root)) = 114
-place_letter Text = 116
+-- c for the hardware, h for the head, r for the root
+abbrev pub place_letter : Place → ℕ
+place_letter Hardware = 99
+place_letter (Kernel Head) = 104
+place_letter (Kernel Root) = 114
 
-abbrev pub refusal : ℕ → ListedPlace → List ℕ
-refusal number place = codes "! " ++ (decimal number ++ (codes " " ++ (place_letter place ∷ [])))
+abbrev pub refusal : ℕ → ℕ → List ℕ
+refusal number letter = codes "! " ++ (decimal number ++ (codes " " ++ (letter ∷ [])))
+
+-- t for the text; a stack of saved levels is its kernel's
+abbrev pub refusal_text : TraceFault → List ℕ
+refusal_text (Text e) = refusal (text_fault_number e) 116
+refusal_text (Machine e) = refusal (number_of e.fault) (place_letter e.place)
+refusal_text (Saved e k) = refusal (stack_fault_number e) (place_letter (Kernel k))
 
 -- ---- the table
 
@@ -52,23 +60,22 @@ answer_text (Ended line) = decimal line
 answer_text (WasStalled b) = bit b
 answer_text (WasAtLevel code) = decimal code
 answer_text (Told set) = hexadecimal set.bits
-answer_text (answer.Refused number place) = refusal number (Machine place)
 
 abbrev pub text : Listed → List ℕ
 text Accepted = codes "ok"
 text (Answered a) = answer_text a
 text (Restored code) = decimal code
-text (Refused number place) = refusal number place
+
+-- the words of a line: of an obeyed one, or of a refusal
+abbrev pub words : Result Listed TraceFault → List ℕ
+words (Ok a) = text a
+words (Err e) = refusal_text e
 
 -- a line ends in a line feed
-abbrev pub line : Listed → List ℕ
-line a = text a ++ (10 ∷ [])
+abbrev pub line : Result Listed TraceFault → List ℕ
+line r = words r ++ (10 ∷ [])
 
 -- ---- the buffer
-
--- words put into a buffer at a place, all else as it was
-unfoldable pub put_at : List ℕ → ℕ → List ℕ → List ℕ
-put_at xs i ws = take i xs ++ (ws ++ drop (i + length ws) xs)
 
 -- How many bytes a buffer must have: the 20 of the longest line of a machine. A count of three digits, which no pump answers, may take one more.
 abbrev pub answer_room : Answer → ℕ
@@ -82,15 +89,14 @@ answer_room (Ended n) = 20
 answer_room (WasStalled b) = 20
 answer_room (WasAtLevel n) = 20
 answer_room (Told s) = 20
-answer_room (answer.Refused n p) = 20
 
-abbrev pub room : Listed → ℕ
-room Accepted = 20
-room (Answered a) = answer_room a
-room (Restored code) = 20
-room (Refused number place) = 20
+abbrev pub room : Result Listed TraceFault → ℕ
+room (Ok Accepted) = 20
+room (Ok (Answered a)) = answer_room a
+room (Ok (Restored code)) = 20
+room (Err e) = 20
 
 -- A line written at the start of a buffer: the answer counts its bytes, and those past it stay. A buffer without the room is refused and stays.
-abbrev pub Writes : Listed → List ℕ → Result ℕ ShortBuffer → List ℕ → Type 0
+abbrev pub Writes : Result Listed TraceFault → List ℕ → Result ℕ ShortBuffer → List ℕ → Type 0
 Writes a xs (Ok n) ys = (room a ≤ length xs) × (n ≡ length (line a)) × (n ≤ room a) × (ys ≡ line a ++ drop n xs)
 Writes a xs (Err e) ys = (length xs < room a) × (ys ≡ xs)

@@ -1,14 +1,41 @@
 // What a line of a listing says.
-use model::{Answer, Place};
+ghost use Rattle.std.specs.Prelude.{◌≡◌};
+ghost use Rattle.listing.specs.Faults.{short_buffer_number};
+ghost use Rattle.listing.specs.declared.listed.TraceFault.TheVariants.{Text, Machine};
 
-// Where a command was refused: at a place of the machine, or at the text.
-#[derive(Clone, Copy)]
-pub enum ListedPlace {
-    Machine(Place),
-    Text,
+use level_stack::StackFault;
+use model::{Answer, Kernel, MachineFault};
+use trace_lines::TextFault;
+
+// Why a line of a trace is refused, and where. A refused line leaves the machine and the stacks as they were.
+#[derive(Clone, Copy, Debug, PartialEq, Eq)]
+pub enum TraceFault {
+    // the line as text
+    Text(TextFault),
+    // the machine's own, with its place
+    Machine(MachineFault),
+    // the stack of a kernel's saved levels
+    Saved { fault: StackFault, kernel: Kernel },
 }
 
-#[derive(Clone, Copy)]
+impl From<TextFault> for TraceFault {
+    ghost from_gives = { λ e r. r ≡ Text e };
+
+    fn from(fault: TextFault) -> TraceFault {
+        TraceFault::Text(fault)
+    }
+}
+
+impl From<MachineFault> for TraceFault {
+    ghost from_gives = { λ e r. r ≡ Machine e };
+
+    fn from(fault: MachineFault) -> TraceFault {
+        TraceFault::Machine(fault)
+    }
+}
+
+// What an obeyed line of a trace lists.
+#[derive(Clone, Copy, Debug, PartialEq, Eq)]
 pub enum Listed {
     // a command before the start was obeyed
     Accepted,
@@ -16,10 +43,17 @@ pub enum Listed {
     Answered(Answer),
     // a saved level was set again: its code
     Restored(u8),
-    // the command was refused
-    Refused { number: u8, place: ListedPlace },
 }
 
 // The buffer has too few bytes for a line.
-#[derive(Clone, Copy)]
+#[derive(Clone, Copy, Debug, PartialEq, Eq)]
 pub struct ShortBuffer;
+
+impl ShortBuffer {
+    // The number of the refusal.
+    pub fn number(self) -> u8
+        ensures { result ≡ short_buffer_number }
+    {
+        10
+    }
+}

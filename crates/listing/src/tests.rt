@@ -1,25 +1,27 @@
 // Lines of a listing.
-use crate::{Listed, ListedPlace, ShortBuffer, write_line};
-use controller::Raised;
+use crate::{Listed, ShortBuffer, TraceFault, write_line};
+use controller::{ControllerFault, Raised};
+use level_stack::StackFault;
 use lines::LineSet;
-use model::{Answer, Kernel, Place};
+use model::{Answer, Fault, Kernel, MachineFault, Place};
+use trace_lines::TextFault;
 
 // Whether the line lists as the text, and the bytes past it stay.
-fn lists(listed: Listed, text: &[u8]) -> bool {
+fn lists(line: Result<Listed, TraceFault>, text: &[u8]) -> bool {
     let mut out = [b'#'; 24];
-    let Ok(n) = write_line(&mut out, listed) else {
+    let Ok(n) = write_line(&mut out, line) else {
         return false;
     };
     n == text.len() && n < 24 && &out[0..n] == text && out[n] == b'#' && out[23] == b'#'
 }
 
 fn answer_lists(answer: Answer, text: &[u8]) -> bool {
-    lists(Listed::Answered(answer), text)
+    lists(Ok(Listed::Answered(answer)), text)
 }
 
 #[test]
 fn answers_are_listed(rt: HostRuntime) {
-    assert!(rt; lists(Listed::Accepted, b"ok\n"));
+    assert!(rt; lists(Ok(Listed::Accepted), b"ok\n"));
     assert!(rt; answer_lists(Answer::Raised(Raised::New), b"new\n"));
     assert!(rt; answer_lists(Answer::Raised(Raised::Merged), b"merged\n"));
     assert!(rt; answer_lists(Answer::Masked, b"ok\n"));
@@ -32,7 +34,7 @@ fn answers_are_listed(rt: HostRuntime) {
     assert!(rt; answer_lists(Answer::WasStalled(false), b"0\n"));
     assert!(rt; answer_lists(Answer::WasStalled(true), b"1\n"));
     assert!(rt; answer_lists(Answer::WasAtLevel(7), b"7\n"));
-    assert!(rt; lists(Listed::Restored(10), b"10\n"));
+    assert!(rt; lists(Ok(Listed::Restored(10)), b"10\n"));
 }
 
 #[test]
@@ -68,39 +70,31 @@ fn arrivals_are_a_count_and_a_set(rt: HostRuntime) {
 
 #[test]
 fn refusals_have_a_number_and_a_place(rt: HostRuntime) {
+    assert!(rt; lists(Err(TraceFault::Text(TextFault::Form)), b"! 8 t\n",));
     assert!(rt;
         lists(
-            Listed::Refused {
-                number: 8,
-                place: ListedPlace::Text,
-            },
-            b"! 8 t\n",
-        )
-    );
-    assert!(rt;
-        lists(
-            Listed::Refused {
-                number: 6,
-                place: ListedPlace::Machine(Place::Kernel(Kernel::Root)),
-            },
+            Err(TraceFault::Saved {
+                fault: StackFault::Full,
+                kernel: Kernel::Root,
+            }),
             b"! 6 r\n",
         )
     );
     assert!(rt;
-        answer_lists(
-            Answer::Refused {
-                number: 3,
+        lists(
+            Err(TraceFault::Machine(MachineFault {
+                fault: Fault::Controller(ControllerFault::NothingInService),
                 place: Place::Kernel(Kernel::Head),
-            },
+            })),
             b"! 3 h\n",
         )
     );
     assert!(rt;
-        answer_lists(
-            Answer::Refused {
-                number: 9,
+        lists(
+            Err(TraceFault::Machine(MachineFault {
+                fault: Fault::OverLimit,
                 place: Place::Hardware,
-            },
+            })),
             b"! 9 c\n",
         )
     );
@@ -109,10 +103,10 @@ fn refusals_have_a_number_and_a_place(rt: HostRuntime) {
 #[test]
 fn a_short_buffer_is_refused_and_stays(rt: HostRuntime) {
     let mut short = [b'#'; 19];
-    let refused = write_line(&mut short, Listed::Accepted);
-    assert!(rt; matches!(refused, Err(ShortBuffer)));
+    let refused = write_line(&mut short, Ok(Listed::Accepted));
+    assert_eq!(rt; refused, Err(ShortBuffer));
     assert!(rt; short[0] == b'#' && short[18] == b'#');
     let mut enough = [b'#'; 20];
-    assert!(rt; matches!(write_line(&mut enough, Listed::Accepted), Ok(3)));
-    assert!(rt; ShortBuffer.number() == 10);
+    assert_eq!(rt; write_line(&mut enough, Ok(Listed::Accepted)), Ok(3));
+    assert_eq!(rt; ShortBuffer.number(), 10);
 }

@@ -1,115 +1,127 @@
 // A line of a listing.
-ghost use Rattle.std.specs.Prelude.{◌≡◌, ℕ, ◌+◌, ◌<◌, ◌≤◌, ◌++◌, length, drop};
-ghost use Rattle.listing.specs.Listing.{place_letter, refusal, answer_text, text, line, put_at, answer_room, room, Writes};
+ghost use Rattle.std.specs.Prelude.{◌≡◌, Ok, ℕ, ◌+◌, ◌<◌, ◌≤◌, length};
+ghost use Rattle.listing.specs.Cursors.{Puts};
+ghost use Rattle.listing.specs.Listing.{place_letter, refusal, refusal_text, answer_text, text, words, answer_room, room, Writes};
 
-use crate::put::{put_byte, put_decimal, put_hexadecimal, put_text};
-use crate::{Listed, ListedPlace, ShortBuffer};
+use crate::cursor::Cursor;
+use crate::{Listed, ShortBuffer, TraceFault};
 use controller::Raised;
 use lines::LineSet;
 use model::{Answer, Kernel, Place};
 
-fn place_letter(place: ListedPlace) -> u8
+fn place_letter(place: Place) -> u8
     ensures { result ≡ place_letter place }
 {
     match place {
-        ListedPlace::Machine(Place::Hardware) => b'c',
-        ListedPlace::Machine(Place::Kernel(Kernel::Head)) => b'h',
-        ListedPlace::Machine(Place::Kernel(Kernel::Root)) => b'r',
-        ListedPlace::Text => b't',
+        Place::Hardware => b'c',
+        Place::Kernel(Kernel::Head) => b'h',
+        Place::Kernel(Kernel::Root) => b'r',
     }
 }
 
 // A count and a set.
-fn put_arrived(out: &mut [u8], count: u8, set: LineSet) -> usize
-    requires { answer_room (Answer.Arrived count set) ≤ length out.old }
-    ensures end { result ≡ length (answer_text (Answer.Arrived count set)) }
-    ensures within { result < answer_room (Answer.Arrived count set) }
-    ensures wrote { out.new ≡ put_at out.old 0 (answer_text (Answer.Arrived count set)) }
+fn put_arrived(to: &mut Cursor<'_>, count: u8, set: LineSet)
+    requires { to.old.at + answer_room (Answer.Arrived count set) ≤ length to.old.out.now }
+    ensures within { to.new.at < to.old.at + answer_room (Answer.Arrived count set) }
+    ensures puts { Puts to.old (answer_text (Answer.Arrived count set)) to.new }
 {
-    let blank = put_decimal(out, 0, count);
-    let mid = put_byte(out, blank, b' ');
-    put_hexadecimal(out, mid, set.bits)
+    to.decimal(count);
+    to.byte(b' ');
+    to.hexadecimal(set.bits);
 }
 
-// The number and the place of a refusal.
-fn put_refusal(out: &mut [u8], number: u8, place: ListedPlace) -> usize
-    requires { 20 ≤ length out.old }
-    ensures end { result ≡ length (refusal number place) }
-    ensures within { result < 20 }
-    ensures wrote { out.new ≡ put_at out.old 0 (refusal number place) }
+// The number of a refusal, and the letter of its place.
+fn put_refusal(to: &mut Cursor<'_>, number: u8, letter: u8)
+    requires { to.old.at + 20 ≤ length to.old.out.now }
+    ensures within { to.new.at < to.old.at + 20 }
+    ensures puts { Puts to.old (refusal number letter) to.new }
 {
-    let at = put_text(out, 0, b"! ");
-    let blank = put_decimal(out, at, number);
-    let mid = put_byte(out, blank, b' ');
-    put_byte(out, mid, place_letter(place))
+    to.text(b"! ");
+    to.decimal(number);
+    to.byte(b' ');
+    to.byte(letter);
 }
 
-fn put_answer(out: &mut [u8], a: Answer) -> usize
-    requires { answer_room a ≤ length out.old }
-    ensures end { result ≡ length (answer_text a) }
-    ensures within { result < answer_room a }
-    ensures wrote { out.new ≡ put_at out.old 0 (answer_text a) }
+fn put_refused(to: &mut Cursor<'_>, refused: TraceFault)
+    requires { to.old.at + 20 ≤ length to.old.out.now }
+    ensures within { to.new.at < to.old.at + 20 }
+    ensures puts { Puts to.old (refusal_text refused) to.new }
 {
-    match a {
-        Answer::Raised(Raised::New) => put_text(out, 0, b"new"),
-        Answer::Raised(Raised::Merged) => put_text(out, 0, b"merged"),
-        Answer::Masked => put_text(out, 0, b"ok"),
-        Answer::Arrived { count, set } => put_arrived(out, count, set),
-        Answer::Delivered(Some(line)) => put_decimal(out, 0, line),
-        Answer::Delivered(None) => put_text(out, 0, b"none"),
-        Answer::Held => put_text(out, 0, b"held"),
-        Answer::Busy => put_text(out, 0, b"busy"),
-        Answer::Ended(line) => put_decimal(out, 0, line),
-        Answer::WasStalled(true) => put_text(out, 0, b"1"),
-        Answer::WasStalled(false) => put_text(out, 0, b"0"),
-        Answer::WasAtLevel(code) => put_decimal(out, 0, code),
-        Answer::Told(set) => put_hexadecimal(out, 0, set.bits),
-        Answer::Refused { number, place } => {
-            put_refusal(out, number, ListedPlace::Machine(place))
+    match refused {
+        TraceFault::Text(fault) => put_refusal(to, fault.number(), b't'),
+        TraceFault::Machine(refused) => {
+            put_refusal(to, refused.fault.number(), place_letter(refused.place))
+        }
+        TraceFault::Saved { fault, kernel } => {
+            put_refusal(to, fault.number(), place_letter(Place::Kernel(kernel)))
         }
     }
 }
 
-fn put_listed(out: &mut [u8], listed: Listed) -> usize
-    requires { room listed ≤ length out.old }
-    ensures end { result ≡ length (text listed) }
-    ensures within { result < room listed }
-    ensures wrote { out.new ≡ put_at out.old 0 (text listed) }
+fn put_answer(to: &mut Cursor<'_>, a: Answer)
+    requires { to.old.at + answer_room a ≤ length to.old.out.now }
+    ensures within { to.new.at < to.old.at + answer_room a }
+    ensures puts { Puts to.old (answer_text a) to.new }
 {
-    match listed {
-        Listed::Accepted => put_text(out, 0, b"ok"),
-        Listed::Answered(a) => put_answer(out, a),
-        Listed::Restored(code) => put_decimal(out, 0, code),
-        Listed::Refused { number, place } => put_refusal(out, number, place),
+    match a {
+        Answer::Raised(Raised::New) => to.text(b"new"),
+        Answer::Raised(Raised::Merged) => to.text(b"merged"),
+        Answer::Masked => to.text(b"ok"),
+        Answer::Arrived { count, set } => put_arrived(to, count, set),
+        Answer::Delivered(Some(line)) => to.decimal(line),
+        Answer::Delivered(None) => to.text(b"none"),
+        Answer::Held => to.text(b"held"),
+        Answer::Busy => to.text(b"busy"),
+        Answer::Ended(line) => to.decimal(line),
+        Answer::WasStalled(true) => to.text(b"1"),
+        Answer::WasStalled(false) => to.text(b"0"),
+        Answer::WasAtLevel(code) => to.decimal(code),
+        Answer::Told(set) => to.hexadecimal(set.bits),
     }
 }
 
-fn put_line(out: &mut [u8], listed: Listed) -> usize
-    requires { room listed ≤ length out.old }
-    ensures end { result ≡ length (line listed) }
-    ensures within { result ≤ room listed }
-    ensures wrote { out.new ≡ line listed ++ drop result out.old }
+fn put_listed(to: &mut Cursor<'_>, listed: Listed)
+    requires { to.old.at + room (Ok listed) ≤ length to.old.out.now }
+    ensures within { to.new.at < to.old.at + room (Ok listed) }
+    ensures puts { Puts to.old (text listed) to.new }
 {
-    let end = put_listed(out, listed);
-    put_byte(out, end, b'\n')
+    match listed {
+        Listed::Accepted => to.text(b"ok"),
+        Listed::Answered(a) => put_answer(to, a),
+        Listed::Restored(code) => to.decimal(code),
+    }
+}
+
+fn put_words(to: &mut Cursor<'_>, line: Result<Listed, TraceFault>)
+    requires { to.old.at + room line ≤ length to.old.out.now }
+    ensures within { to.new.at < to.old.at + room line }
+    ensures puts { Puts to.old (words line) to.new }
+{
+    match line {
+        Ok(listed) => put_listed(to, listed),
+        Err(fault) => put_refused(to, fault),
+    }
 }
 
 // How many bytes a buffer must have for the line.
-fn needed(listed: Listed) -> usize
-    ensures { result ≡ room listed }
+fn needed(line: Result<Listed, TraceFault>) -> usize
+    ensures { result ≡ room line }
 {
-    match listed {
-        Listed::Answered(Answer::Arrived { count, .. }) if count > 99 => 21,
+    match line {
+        Ok(Listed::Answered(Answer::Arrived { count, .. })) if count > 99 => 21,
         _ => 20,
     }
 }
 
 // One line at the start of the buffer, with its line feed; the answer is how many bytes it has.
-pub fn write_line(out: &mut [u8], listed: Listed) -> Result<usize, ShortBuffer>
-    ensures { Writes listed out.old result out.new }
+pub fn write_line(out: &mut [u8], line: Result<Listed, TraceFault>) -> Result<usize, ShortBuffer>
+    ensures { Writes line out.old result out.new }
 {
-    if out.len() < needed(listed) {
+    if out.len() < needed(line) {
         return Err(ShortBuffer);
     }
-    Ok(put_line(out, listed))
+    let mut cursor = Cursor::over(out);
+    put_words(&mut cursor, line);
+    cursor.byte(b'\n');
+    Ok(cursor.written())
 }

@@ -45,12 +45,12 @@ so_far_more m x y n count set line count' set' s h (t, p, k) ec es =
     }
 
 answered : (m y : MachineModel) (limit n count : ℕ) (set : LineSet) → n ≤ limit → Arrivals m.hardware n set.bits → size set.bits ≡ count → y ≡ pumped m set.bits
-    → Answered (Pumps {E = Unit {0}} limit n) pump_says m (arrived count set) y
-answered m y limit n count set h a e l = record { result = Ok set.bits; does = (h, a, l); answers = ap (λ c. arrived c set) (sym e) }
+    → Answered (Pumps {E = Unit {0}} limit n) pump_says m (Ok (arrived count set)) y
+answered m y limit n count set h a e l = record { result = Ok set.bits; does = (h, a, l); answers = ap (λ c. Ok (arrived c set)) (sym e) }
 
 -- no line is deliverable any more
 pub so_far_all : (m x y : MachineModel) (limit n count : ℕ) (set : LineSet) → n ≤ limit → SoFar m x n count set.bits → Arrives x None y
-    → Answered (Pumps {E = Unit {0}} limit n) pump_says m (arrived count set) y
+    → Answered (Pumps {E = Unit {0}} limit n) pump_says m (Ok (arrived count set)) y
 so_far_all m x y limit n count set h s (t, p) =
     let c = s.counted in
     let f = s.few in
@@ -59,7 +59,7 @@ so_far_all m x y limit n count set h s (t, p) =
 
 -- as many as were asked for have arrived
 pub so_far_full : (m x : MachineModel) (limit n count : ℕ) (set : LineSet) → n ≤ limit → SoFar m x n count set.bits → n ≤ count
-    → Answered (Pumps {E = Unit {0}} limit n) pump_says m (arrived count set) x
+    → Answered (Pumps {E = Unit {0}} limit n) pump_says m (Ok (arrived count set)) x
 so_far_full m x limit n count set h s k =
     let c = s.counted in
     let f = s.few in

@@ -4,8 +4,8 @@ use Rattle.lines.specs.Sets.{has}
 use Rattle.controller.specs.declared.fault.ControllerFault.TheVariants.{NoSuchLine}
 use Rattle.model.specs.declared.calls.Kernel.TheVariants.{Head as head, Root as root}
 use Rattle.model.specs.declared.calls.Place.TheVariants.{Hardware as hardware, Kernel as kernel}
-use Rattle.machine_faults.specs.declared.fault.Fault.TheVariants.{Controller, NotAtStage}
-use Rattle.machine_faults.specs.declared.fault.MachineFault.{MachineFault}
+use Rattle.model.specs.declared.fault.Fault.TheVariants.{Controller, NotAtStage}
+use Rattle.model.specs.declared.fault.MachineFault.{MachineFault}
 use Rattle.routes.specs.declared.Route.{Route}
 use Rattle.routes.specs.declared.Routes.{Routes}
 use Rattle.routes.specs.Sets.{routes_of, rerouted}

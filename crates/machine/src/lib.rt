@@ -8,9 +8,7 @@ mod phase;
 mod play;
 mod pump;
 
-pub use calls::Next;
 pub use machine::Machine;
-pub use machine_faults::{AtHead, AtRoot, Fault, MachineFault};
 pub use phase::{Asked, Closed, LaidOut, Live, Running};
 pub use play::run;
 pub use pump::Arrived;

@@ -1,15 +1,15 @@
 // The phases of a machine. Each is a type, and a machine moves from one to the next.
 
 // Routes can be set.
-#[derive(Clone, Copy)]
+#[derive(Clone, Copy, Debug, PartialEq, Eq)]
 pub struct LaidOut;
 
 // The calls run.
-#[derive(Clone, Copy)]
+#[derive(Clone, Copy, Debug, PartialEq, Eq)]
 pub struct Running;
 
 // Questions alone are answered.
-#[derive(Clone, Copy)]
+#[derive(Clone, Copy, Debug, PartialEq, Eq)]
 pub struct Closed;
 
 // The phases in which calls run.

@@ -3,21 +3,20 @@ ghost use Rattle.std.specs.Prelude.{◌≡◌, ◌+◌, ◌<◌, nat_lt};
 ghost use Rattle.lines.specs.Sets.{with_line};
 ghost use Rattle.model.specs.declared.calls.Call.TheVariants.{Pump as pump_call};
 ghost use Rattle.model.specs.Machine.{Answered, Pumps, pump_says, Step};
-ghost use Rattle.machine.specs.Whole.{model_of, ConsistentOf};
-ghost use Rattle.machine.specs.Answering.{pump_answer};
+ghost use Rattle.machine.specs.Whole.{model_of};
+ghost use Rattle.machine.specs.Answering.{replied, arrived_of};
 
 use crate::{Live, Machine};
 use controller::Controller;
 use lines::LineSet;
-use machine_faults::{Fault, MachineFault};
-use model::Place;
+use model::{Fault, MachineFault, Place};
 use stage::Stage;
 
 // The most lines that one pump moves.
 const LIMIT: u8 = 64;
 
-// How many lines arrived, and which.
-#[derive(Clone, Copy)]
+// How many lines arrived, and which; the answer of that name has the two as they are, like each answer its parts.
+#[derive(Clone, Copy, Debug, PartialEq, Eq)]
 pub struct Arrived {
     pub count: u8,
     pub set: LineSet,
@@ -46,13 +45,6 @@ impl Arrived {
             set: self.set.with(line),
         }
     }
-
-    // Whether they are fewer than n.
-    fn is_below(self, n: u8) -> bool
-        ensures { result ≡ nat_lt self.count n }
-    {
-        self.count < n
-    }
 }
 
 // Whether a pump of n lines goes over its limit.
@@ -65,18 +57,14 @@ fn is_over(n: u8, limit: u8) -> bool
 impl<P: Live, H: Controller, A: Stage, B: Stage> Machine<P, H, A, B> {
     // The first n deliverable lines of the hardware arrive, or all if they are fewer; more than 64 are refused.
     pub fn pump(&mut self, n: u8) -> Result<Arrived, MachineFault>
-        requires { ConsistentOf H.Controller A.Stage B.Stage self.old }
-        ensures keeps { ConsistentOf H.Controller A.Stage B.Stage self.new }
-        ensures steps { Step (model_of H.Controller A.Stage B.Stage self.old) (pump_call n) (pump_answer result) (model_of H.Controller A.Stage B.Stage self.new) }
+        ensures { Step (model_of H.Controller A.Stage B.Stage self.old) (pump_call n) (replied arrived_of result) (model_of H.Controller A.Stage B.Stage self.new) }
     {
         self.pump_within(LIMIT, n)
     }
 
     // The same, for any limit.
     fn pump_within(&mut self, limit: u8, n: u8) -> Result<Arrived, MachineFault>
-        requires { ConsistentOf H.Controller A.Stage B.Stage self.old }
-        ensures keeps { ConsistentOf H.Controller A.Stage B.Stage self.new }
-        ensures pumps { Answered (Pumps {E = Unit {0}} limit n) pump_says (model_of H.Controller A.Stage B.Stage self.old) (pump_answer result) (model_of H.Controller A.Stage B.Stage self.new) }
+        ensures { Answered (Pumps {E = Unit {0}} limit n) pump_says (model_of H.Controller A.Stage B.Stage self.old) (replied arrived_of result) (model_of H.Controller A.Stage B.Stage self.new) }
     {
         if is_over(n, limit) {
             return Err(MachineFault {
@@ -85,7 +73,7 @@ impl<P: Live, H: Controller, A: Stage, B: Stage> Machine<P, H, A, B> {
             });
         }
         let mut arrived = Arrived::none();
-        while arrived.is_below(n) {
+        for _ in 0..n {
             match self.arrive() {
                 Some(line) => arrived = arrived.with(line),
                 None => return Ok(arrived),

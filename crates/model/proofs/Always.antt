@@ -13,11 +13,10 @@ use Rattle.model.specs.declared.calls.StageCall.{StageCall}
 use Rattle.model.specs.declared.calls.StageCall.TheVariants.{Done as done, Mask as mask, Stall as stall, Unstall as unstall, SetLevel as set_level}
 use Rattle.model.specs.declared.calls.Call.{Call}
 use Rattle.model.specs.declared.calls.Call.TheVariants.{Raise as raise, MaskHardware as mask_hardware, Pump as pump, Next as next, To as to, Ask as ask}
-use Rattle.model.specs.declared.calls.Answer.{Answer}
-use Rattle.model.specs.declared.calls.Answer.TheVariants.{Delivered as delivered, Held as held, Busy as busy, WasStalled as was_stalled, Told as set_told}
+use Rattle.model.specs.declared.calls.Answer.TheVariants.{Held as held, Busy as busy, Told as set_told}
 use Rattle.model.specs.Arrivals.{Arrivals, Passes}
 use Rattle.model.specs.Stage.{StageModel, told, telling, Through, SetsStalled, SetsStageLevel}
-use Rattle.model.specs.Machine.{MachineModel, pipeline, before, with_hardware, with_stage, view, tells, set_of, AtHardware, AtStage, pumped, Pumps, Held, Busy, Answered, raise_says, mask_says, done_says, level_says, pump_says, Nexts, StageStep, Step}
+use Rattle.model.specs.Machine.{MachineModel, pipeline, before, with_hardware, with_stage, view, tells, set_of, AtHardware, AtStage, pumped, Pumps, Held, Busy, Answered, raise_says, mask_says, done_says, level_says, pump_says, Nexts, StageStep, Step, Reply, take_says, stall_says}
 use Rattle.model.specs.Run.{Entry, calls, Run, Fresh}
 use Rattle.model.specs.Promises.{EveryListRuns}
 use Rattle.model.proofs.Kernels.{In, all_in}
@@ -115,26 +114,26 @@ module _ (m : MachineModel) (o : SoundStages m) where
 
   -- ---- each call
 
-  abbrev Stepped : (Answer → MachineModel → Type 0) → Type 0
-  Stepped S = (a : Answer) × (m' : MachineModel) × S a m'
+  abbrev Stepped : (Reply → MachineModel → Type 0) → Type 0
+  Stepped S = (a : Reply) × (m' : MachineModel) × S a m'
 
-  at_stage : {X : Type 0} (k : Kernel) (R : StageModel → X → StageModel → Type 0) (says : X → Answer) (r : X) (s : StageModel) → R (m.stage k) r s
+  at_stage : {X : Type 0} (k : Kernel) (R : StageModel → X → StageModel → Type 0) (says : X → Reply) (r : X) (s : StageModel) → R (m.stage k) r s
       → Stepped (Answered (AtStage k R) says m)
   at_stage k R says r s h = (says r, with_stage m k s, record { result = r; does = (s, h, refl); answers = refl })
 
-  through : {X : Type 0} (k : Kernel) (R : View → X → View → Type 0) (says : X → Answer) (r : X) (w : View) → R (told (m.stage k)) r w
+  through : {X : Type 0} (k : Kernel) (R : View → X → View → Type 0) (says : X → Reply) (r : X) (w : View) → R (told (m.stage k)) r w
       → Stepped (Answered (AtStage k (Through R)) says m)
   through k R says r w h = at_stage k (Through R) says r (telling (m.stage k) w) (w, h, refl)
 
   next_always : (k : Kernel) → Stepped (Nexts k m)
   next_always k =
       elim (held_decided k) [
-        | inl h ↦ (held, m, inl (h, (refl, refl)))
+        | inl h ↦ (Ok held, m, inl (h, (refl, refl)))
         | inr h ↦ elim (busy_decided k) [
-          | inl b ↦ (busy, m, inr (inl (h, b, (refl, refl))))
+          | inl b ↦ (Ok busy, m, inr (inl (h, b, (refl, refl))))
           | inr b ↦
               let v = told (m.stage k) in
-              let s = through k Takes delivered (take_result v) (take_leaves v) (take_computed v (sound_at k)) in
+              let s = through k Takes take_says (take_result v) (take_leaves v) (take_computed v (sound_at k)) in
               (s.0, s.1, inr (inr (h, b, s.2)))
         ]
       ]
@@ -146,11 +145,11 @@ module _ (m : MachineModel) (o : SoundStages m) where
   stage_always : (k : Kernel) (c : StageCall) → Stepped (StageStep k m c)
   stage_always k done = let v = told (m.stage k) in through k Ends (done_says k) (end_result v) (end_leaves v) (end_computed v (sound_at k))
   stage_always k (mask s) = let v = told (m.stage k) in through k (λ x. Masks x s.bits) (mask_says (kernel k)) (mask_result v s.bits) (mask_leaves v s.bits) (mask_computed v s.bits)
-  stage_always k stall = at_stage k (SetsStalled true) was_stalled (m.stage k).stalled _ (refl, refl)
-  stage_always k unstall = at_stage k (SetsStalled false) was_stalled (m.stage k).stalled _ (refl, refl)
+  stage_always k stall = at_stage k (SetsStalled true) stall_says (m.stage k).stalled _ (refl, refl)
+  stage_always k unstall = at_stage k (SetsStalled false) stall_says (m.stage k).stalled _ (refl, refl)
   stage_always k (set_level c) = level_by k c _ refl
 
-  at_hardware : {X : Type 0} (R : View → X → View → Type 0) (says : X → Answer) (r : X) (w : View) → R m.hardware r w → Stepped (Answered (AtHardware R) says m)
+  at_hardware : {X : Type 0} (R : View → X → View → Type 0) (says : X → Reply) (r : X) (w : View) → R m.hardware r w → Stepped (Answered (AtHardware R) says m)
   at_hardware R says r w h = (says r, with_hardware m w, record { result = r; does = (w, h, refl); answers = refl })
 
   step_always : Sound m.hardware → (c : Call) → Stepped (Step m c)
@@ -160,7 +159,7 @@ module _ (m : MachineModel) (o : SoundStages m) where
   step_always h (pump n) = let p = pumps_always 64 n m h in (pump_says p.0, p.1, record { result = p.0; does = p.2; answers = refl })
   step_always h (next k) = next_always k
   step_always h (to k c) = stage_always k c
-  step_always h (ask p q) = (set_told (set_of (tells (view m p) q)), m, (refl, refl))
+  step_always h (ask p q) = (Ok (set_told (set_of (tells (view m p) q))), m, (refl, refl))
 
 -- ---- each list of calls, for a sound machine stays sound
 

@@ -44,7 +44,7 @@ pumps_once : {E : Type 0} (limit n : ℕ) (m k m' k' : MachineModel) (r q : Resu
     → (pump_says r ≡ pump_says q) × (m ≡ k → m' ≡ k')
 pumps_once limit n m k m' k' (Ok s) (Ok t) o h (a, f, p) (b, g, q) =
     let e : s ≡ t = arrivals_alike (self_alike m.hardware o) n s t f (subst (λ v. Arrivals v n t) (sym h) g) in
-    (ap (λ z. arrived (size z) (set_of z)) e, λ i. p ∙ ap₂ pumped i e ∙ sym q)
+    (ap (λ z. Ok (arrived (size z) (set_of z))) e, λ i. p ∙ ap₂ pumped i e ∙ sym q)
 pumps_once limit n m k m' k' (Ok s) (Err e) o h (a, f, p) (b, q) = absurd (let z : ⊥ = omega arith in z)
 pumps_once limit n m k m' k' (Err d) (Ok t) o h (a, p) (b, g, q) = absurd (let z : ⊥ = omega arith in z)
 pumps_once limit n m k m' k' (Err d) (Err e) o h (a, p) (b, q) = (refl, λ i. p ∙ i ∙ sym q)
@@ -54,7 +54,7 @@ pump_determined m k m' k' n a b o h x y =
     let z = pumps_once 64 n m k m' k' x.result y.result o h x.does y.does in
     (x.answers ∙ z.0 ∙ sym y.answers, z.1)
 
-counts : {E : Type 0} (limit n c u : ℕ) (s : LineSet) (m m' : MachineModel) (r : Result ℕ E) → arrived c s ≡ pump_says r → Pumps limit n m r m' → SetOf (Deliverable m.hardware) u
+counts : {E : Type 0} (limit n c u : ℕ) (s : LineSet) (m m' : MachineModel) (r : Result ℕ E) → Ok (arrived c s) ≡ pump_says r → Pumps limit n m r m' → SetOf (Deliverable m.hardware) u
     → (c ≡ size s.bits) × (c ≡ min n (size u))
 counts limit n c u s m m' (Ok t) e (b, f, p) o =
     let x : c ≡ size t = cc in

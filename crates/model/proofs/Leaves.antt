@@ -6,9 +6,8 @@ use Rattle.spl.specs.declared.fault.LevelFault.{LevelFault}
 use Rattle.model.specs.declared.calls.Kernel.{Kernel}
 use Rattle.model.specs.declared.calls.StageCall.{StageCall}
 use Rattle.model.specs.declared.calls.StageCall.TheVariants.{Done as done, Mask as mask, Stall as stall, Unstall as unstall, SetLevel as set_level}
-use Rattle.model.specs.declared.calls.Answer.{Answer}
 use Rattle.model.specs.Stage.{StageModel, told, Through, SetsStalled, SetsStageLevel}
-use Rattle.model.specs.Machine.{MachineModel, with_stage, Answered, AtStage, Nexts, StageStep}
+use Rattle.model.specs.Machine.{MachineModel, with_stage, Answered, AtStage, Nexts, StageStep, Reply}
 use Rattle.model.proofs.Views.{Fixed, masks_fixed, takes_fixed, ends_fixed, masks_pending, ends_pending}
 
 -- the lines and what is pending are as they were
@@ -37,11 +36,11 @@ level_keeps c s s' (Err e) h = same_keeps (ap (λ x. x.own) h.2)
 abbrev ElsewhereSame : Kernel → MachineModel → MachineModel → Type 0
 ElsewhereSame k m m' = (s : StageModel) × Keeps (m.stage k).own s.own × (m' ≡ with_stage m k s)
 
-at_stage : {X : Type 0} (k : Kernel) (R : StageModel → X → StageModel → Type 0) (says : X → Answer) → ((s s' : StageModel) (r : X) → R s r s' → Keeps s.own s'.own)
-    → (m m' : MachineModel) (a : Answer) → Answered (AtStage k R) says m a m' → ElsewhereSame k m m'
+at_stage : {X : Type 0} (k : Kernel) (R : StageModel → X → StageModel → Type 0) (says : X → Reply) → ((s s' : StageModel) (r : X) → R s r s' → Keeps s.own s'.own)
+    → (m m' : MachineModel) (a : Reply) → Answered (AtStage k R) says m a m' → ElsewhereSame k m m'
 at_stage k R says h m m' a x = let d = x.does in (d.0, h (m.stage k) d.0 x.result d.1, d.2)
 
-pub stage_leaves : (k : Kernel) (m m' : MachineModel) (c : StageCall) (a : Answer) → StageStep k m c a m' → (s : StageModel) × Keeps (m.stage k).own s.own × (m' ≡ with_stage m k s)
+pub stage_leaves : (k : Kernel) (m m' : MachineModel) (c : StageCall) (a : Reply) → StageStep k m c a m' → (s : StageModel) × Keeps (m.stage k).own s.own × (m' ≡ with_stage m k s)
 stage_leaves k m m' done a x = at_stage k _ _ (through_keeps Ends ends_fixed ends_pending) m m' a x
 stage_leaves k m m' (mask s) a x = at_stage k _ _ (through_keeps (λ v. Masks v s.bits) (masks_fixed s.bits) (masks_pending s.bits)) m m' a x
 stage_leaves k m m' stall a x = at_stage k _ _ (stalled_keeps true) m m' a x
@@ -49,7 +48,7 @@ stage_leaves k m m' unstall a x = at_stage k _ _ (stalled_keeps false) m m' a x
 stage_leaves k m m' (set_level c) a x = at_stage k _ _ (level_keeps c) m m' a x
 
 -- next leaves all as it was, or all but the stage of kernel k and its lines too
-pub next_leaves : (k : Kernel) (m m' : MachineModel) (a : Answer) → Nexts k m a m'
+pub next_leaves : (k : Kernel) (m m' : MachineModel) (a : Reply) → Nexts k m a m'
     → (m' ≡ m) ⊎ ((s : StageModel) × (s.own.lines ≡ (m.stage k).own.lines) × (m' ≡ with_stage m k s))
 next_leaves k m m' a (inl (h, p)) = inl p.1
 next_leaves k m m' a (inr (inl (h, b, p))) = inl p.1

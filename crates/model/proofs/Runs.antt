@@ -1,6 +1,7 @@
 -- Whole runs: machines alike answer alike, and the calls of a kernel are not seen before it.
 use Rattle.std.proofs.Common.{◌≡◌, Bool, true, false, cond, not, List, [], ◌∷◌, ◌++◌, sym, refl, ap, ◌∙◌, subst, ap₂, inl, inr}
 use Rattle.std.proofs.lemmas.Bool.{cases_Bool}
+use Rattle.std.proofs.lemmas.List.Elements.{filter_agree}
 use Rattle.controller.specs.View.{View}
 use Rattle.model.specs.declared.calls.Kernel.{Kernel}
 use Rattle.model.specs.declared.calls.Kernel.TheVariants.{Head as head, Root as root}
@@ -10,7 +11,7 @@ use Rattle.model.specs.declared.calls.Call.TheVariants.{Raise as raise, MaskHard
 use Rattle.model.specs.Machine.{MachineModel, before, same, Step}
 use Rattle.model.specs.Run.{Entry, calls, answers, Run, Made, Fresh, OrderedAlike, MadeAlike}
 use Rattle.model.specs.Promises.{AlikeAnswers, concerns, part, Undisturbed, names, others, Apart, PromisesKept}
-use Rattle.model.proofs.Lists.{cons_head, cons_tail, kept_alike, kept_all}
+use Rattle.model.proofs.Lists.{cons_head, cons_tail, kept_all}
 use Rattle.model.proofs.Kernels.{before_through}
 use Rattle.model.proofs.Views.{Alike}
 use Rattle.model.proofs.Steps.{AlikeMachine, machine_sym, step_alike, step_aside}
@@ -115,7 +116,7 @@ all_concern (ask hardware q) = refl
 all_concern (ask (kernel k) q) = refl
 
 all_part : (h : List Entry) → part (λ _. true) h ≡ h
-all_part h = kept_alike (λ e. concerns (λ _. true) e.call) (λ e. true) (λ e. all_concern e.call) h ∙ kept_all h
+all_part h = filter_agree (λ e. concerns (λ _. true) e.call) (λ e. true) (λ e. all_concern e.call) h ∙ kept_all h
 
 pub alike_answers : AlikeAnswers Fresh
 alike_answers m n m' n' h g f f' a r r' e =
@@ -138,7 +139,7 @@ root_concerns (ask hardware q) = refl
 root_concerns (ask (kernel k) q) = before_root k
 
 others_ahead : (h : List Entry) → others root h ≡ part (λ j. before j root) h
-others_ahead h = kept_alike (λ e. not (names root e.call)) (λ e. concerns (λ j. before j root) e.call) (λ e. root_concerns e.call) h
+others_ahead h = filter_agree (λ e. not (names root e.call)) (λ e. concerns (λ j. before j root) e.call) (λ e. root_concerns e.call) h
 
 pub root_apart : Apart root
 root_apart m n m' n' h g f f' a r r' e =

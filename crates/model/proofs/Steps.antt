@@ -14,11 +14,10 @@ use Rattle.model.specs.declared.calls.StageCall.{StageCall}
 use Rattle.model.specs.declared.calls.StageCall.TheVariants.{Done as done, Mask as mask, Stall as stall, Unstall as unstall, SetLevel as set_level}
 use Rattle.model.specs.declared.calls.Call.{Call}
 use Rattle.model.specs.declared.calls.Call.TheVariants.{Raise as raise, MaskHardware as mask_hardware, Pump as pump, Next as next, To as to, Ask as ask}
-use Rattle.model.specs.declared.calls.Answer.{Answer}
-use Rattle.model.specs.declared.calls.Answer.TheVariants.{Delivered as delivered, WasStalled as was_stalled, Told as set_told}
+use Rattle.model.specs.declared.calls.Answer.TheVariants.{Told as set_told}
 use Rattle.model.specs.Arrivals.{cleared}
 use Rattle.model.specs.Stage.{StageModel, blocks, told, telling, set_own, Through, SetsStalled, SetsStageLevel}
-use Rattle.model.specs.Machine.{MachineModel, before, same, routed, with_stage, tells, set_of, AtHardware, AtStage, pumped, Pumps, Held, Busy, Answered, Only, raise_says, mask_says, done_says, level_says, pump_says, Nexts, StageStep, Step}
+use Rattle.model.specs.Machine.{MachineModel, before, same, routed, with_stage, tells, set_of, AtHardware, AtStage, pumped, Pumps, Held, Busy, Answered, Only, raise_says, mask_says, done_says, level_says, pump_says, Nexts, StageStep, Step, Reply, stall_says, take_says}
 use Rattle.model.specs.Promises.{concerns}
 use Rattle.model.proofs.Kernels.{stage_cases}
 use Rattle.model.proofs.Leaves.{next_leaves, stage_leaves}
@@ -99,8 +98,8 @@ pub record AlikeMachine (these : Kernel → Bool) (m n : MachineModel) : Type 0 
   pub at_stage : (k : Kernel) → these k ≡ true → AlikeStage (m.stage k) (n.stage k)
   pub routes : m.routes ≡ n.routes
 
-by_alike : {S X : Type 0} (Like : S → S → Type 0) (R : S → X → S → Type 0) (says : X → Answer) → Respects Like R
-    → {s t s' t' : S} {a b : Answer} → Like s t → Answered R says s a s' → Answered R says t b t' → (a ≡ b) × Like s' t'
+by_alike : {S X : Type 0} (Like : S → S → Type 0) (R : S → X → S → Type 0) (says : X → Reply) → Respects Like R
+    → {s t s' t' : S} {a b : Reply} → Like s t → Answered R says s a s' → Answered R says t b t' → (a ≡ b) × Like s' t'
 by_alike Like R says h {s} {t} {s'} {t'} l x y =
     let both = h s t s' t' x.result y.result l x.does y.does in
     (x.answers ∙ ap says both.0 ∙ sym y.answers, both.1)
@@ -164,10 +163,10 @@ module _ (these : Kernel → Bool) (closed : (j k : Kernel) → these k ≡ true
   busy_alike l k h (j, b, (i, inl s)) = (j, b, (i, inl (serving_alike (told_alike (l.at_stage j (closed j k h b))) i s)))
   busy_alike l k h (j, b, (i, inr o)) = (j, b, (i, inr (deliverable_alike (told_alike (l.at_stage j (closed j k h b))) i o)))
 
-  only_alike : {m n m' n' : MachineModel} {a b c : Answer} → AlikeMachine these m n → Only c m a m' → Only c n b n' → (a ≡ b) × AlikeMachine these m' n'
+  only_alike : {m n m' n' : MachineModel} {a b c : Reply} → AlikeMachine these m n → Only c m a m' → Only c n b n' → (a ≡ b) × AlikeMachine these m' n'
   only_alike l (e, p) (f, q) = (e ∙ sym f, subst₂ (AlikeMachine these) (sym p) (sym q) l)
 
-  next_alike : {m n m' n' : MachineModel} {a b : Answer} (k : Kernel) → these k ≡ true → AlikeMachine these m n → Nexts k m a m' → Nexts k n b n'
+  next_alike : {m n m' n' : MachineModel} {a b : Reply} (k : Kernel) → these k ≡ true → AlikeMachine these m n → Nexts k m a m' → Nexts k n b n'
       → (a ≡ b) × AlikeMachine these m' n'
   next_alike k h l (inl (x, p)) (inl (y, q)) = only_alike l p q
   next_alike k h l (inl (x, p)) (inr (inl (y, v, z))) = absurd (y (held_alike l k h x))
@@ -178,7 +177,7 @@ module _ (these : Kernel → Bool) (closed : (j k : Kernel) → these k ≡ true
   next_alike k h l (inr (inr (x, u, p))) (inl (y, z)) = absurd (x (held_alike (machine_sym l) k h y))
   next_alike k h l (inr (inr (x, u, p))) (inr (inl (y, v, z))) = absurd (u (busy_alike (machine_sym l) k h v))
   next_alike k h l (inr (inr (x, u, p))) (inr (inr (y, v, q))) =
-      by_alike (AlikeMachine these) (AtStage k (Through Takes)) delivered (stage_alike k (Through Takes) h (through_alike Takes takes_alike takes_fixed)) l p q
+      by_alike (AlikeMachine these) (AtStage k (Through Takes)) take_says (stage_alike k (Through Takes) h (through_alike Takes takes_alike takes_fixed)) l p q
 
   pumped_alike : {m n : MachineModel} → AlikeMachine these m n → (s : ℕ) → AlikeMachine these (pumped m s) (pumped n s)
   pumped_alike {m} {n} l s =
@@ -199,25 +198,25 @@ module _ (these : Kernel → Bool) (closed : (j k : Kernel) → these k ≡ true
   pumps_alike limit c m n m' n' (Err d) (Ok t) l (a, p) (b, g, q) = absurd (let z : ⊥ = omega arith in z)
   pumps_alike limit c m n m' n' (Err d) (Err e) l (a, p) (b, q) = (refl, subst₂ (AlikeMachine these) (sym p) (sym q) l)
 
-  stage_step_alike : {m n m' n' : MachineModel} {a b : Answer} (k : Kernel) (c : StageCall) → these k ≡ true → AlikeMachine these m n → StageStep k m c a m' → StageStep k n c b n'
+  stage_step_alike : {m n m' n' : MachineModel} {a b : Reply} (k : Kernel) (c : StageCall) → these k ≡ true → AlikeMachine these m n → StageStep k m c a m' → StageStep k n c b n'
       → (a ≡ b) × AlikeMachine these m' n'
   stage_step_alike k done h l x y = by_alike (AlikeMachine these) _ (done_says k) (stage_alike k _ h (through_alike Ends ends_alike ends_fixed)) l x y
   stage_step_alike k (mask s) h l x y =
       by_alike (AlikeMachine these) _ (mask_says (kernel k)) (stage_alike k _ h (through_alike (λ v. Masks v s.bits) (masks_alike s.bits) (masks_fixed s.bits))) l x y
-  stage_step_alike k stall h l x y = by_alike (AlikeMachine these) _ was_stalled (stage_alike k _ h (stalled_alike true)) l x y
-  stage_step_alike k unstall h l x y = by_alike (AlikeMachine these) _ was_stalled (stage_alike k _ h (stalled_alike false)) l x y
+  stage_step_alike k stall h l x y = by_alike (AlikeMachine these) _ stall_says (stage_alike k _ h (stalled_alike true)) l x y
+  stage_step_alike k unstall h l x y = by_alike (AlikeMachine these) _ stall_says (stage_alike k _ h (stalled_alike false)) l x y
   stage_step_alike k (set_level c) h l x y = by_alike (AlikeMachine these) _ (level_says k) (stage_alike k _ h (level_alike c)) l x y
 
   -- equal answers, and machines alike again
-  pub step_alike : {m n m' n' : MachineModel} {a b : Answer} (c : Call) → concerns these c ≡ true → AlikeMachine these m n → Step m c a m' → Step n c b n'
+  pub step_alike : {m n m' n' : MachineModel} {a b : Reply} (c : Call) → concerns these c ≡ true → AlikeMachine these m n → Step m c a m' → Step n c b n'
       → (a ≡ b) × AlikeMachine these m' n'
   step_alike (raise i) h l x y = by_alike (AlikeMachine these) _ raise_says (hardware_alike (λ v. Raises v i) (raises_alike i)) l x y
   step_alike (mask_hardware s) h l x y = by_alike (AlikeMachine these) _ (mask_says hardware) (hardware_alike (λ v. Masks v s.bits) (masks_alike s.bits)) l x y
   step_alike (pump c) h l x y = by_alike (AlikeMachine these) _ pump_says (pumps_alike 64 c) l x y
   step_alike (next k) h l x y = next_alike k h l x y
   step_alike (to k c) h l x y = stage_step_alike k c h l x y
-  step_alike {n = n} {n' = n'} {b = b} (ask hardware q) h l x y = only_alike l x (subst (λ s. Only (set_told (set_of s)) n b n') (sym (tells_alike l.at_hardware q)) y)
-  step_alike {n = n} {n' = n'} {b = b} (ask (kernel k) q) h l x y = only_alike l x (subst (λ s. Only (set_told (set_of s)) n b n') (sym (tells_alike (told_alike (l.at_stage k h)) q)) y)
+  step_alike {n = n} {n' = n'} {b = b} (ask hardware q) h l x y = only_alike l x (subst (λ s. Only (Ok (set_told (set_of s))) n b n') (sym (tells_alike l.at_hardware q)) y)
+  step_alike {n = n} {n' = n'} {b = b} (ask (kernel k) q) h l x y = only_alike l x (subst (λ s. Only (Ok (set_told (set_of s))) n b n') (sym (tells_alike (told_alike (l.at_stage k h)) q)) y)
 
   -- ---- the calls of the other kernels are not seen
 
@@ -229,7 +228,7 @@ module _ (these : Kernel → Bool) (closed : (j k : Kernel) → these k ≡ true
         routes = l.routes;
       }
 
-  pub step_aside : {m n m' : MachineModel} (a : Answer) (c : Call) → concerns these c ≡ false → AlikeMachine these m n → Step m c a m' → AlikeMachine these m' n
+  pub step_aside : {m n m' : MachineModel} (a : Reply) (c : Call) → concerns these c ≡ false → AlikeMachine these m n → Step m c a m' → AlikeMachine these m' n
   step_aside a (raise i) h l x = absurd (both_ways true h refl)
   step_aside a (mask_hardware s) h l x = absurd (both_ways true h refl)
   step_aside a (pump c) h l x = absurd (both_ways true h refl)

@@ -12,9 +12,8 @@ use Rattle.model.specs.declared.calls.Place.{Place}
 use Rattle.model.specs.declared.calls.Place.TheVariants.{Hardware as hardware, Kernel as kernel}
 use Rattle.model.specs.declared.calls.Call.{Call}
 use Rattle.model.specs.declared.calls.Call.TheVariants.{Raise as raise, MaskHardware as mask_hardware, Pump as pump, Next as next, To as to, Ask as ask}
-use Rattle.model.specs.declared.calls.Answer.{Answer}
 use Rattle.model.specs.Stage.{StageModel, told}
-use Rattle.model.specs.Machine.{MachineModel, same, routed, taken_up, with_stage, view, Pumps, raise_says, pump_says, Step}
+use Rattle.model.specs.Machine.{MachineModel, same, routed, taken_up, with_stage, view, Pumps, raise_says, pump_says, Step, Reply}
 use Rattle.model.specs.Run.{Entry, Run, Fresh, Routable}
 use Rattle.model.specs.Requests.{Mark, accepted, arrivals, found, marked, mark, noting, marks, struck, strike, Alternate, last}
 use Rattle.model.specs.Requests.Mark.{comes, goes}
@@ -99,7 +98,7 @@ and_no true = refl
 and_no false = refl
 
 -- what a call says of line n at a place, and how that line's pending changes there
-Right : MachineModel → Place → ℕ → Call → Answer → MachineModel → Type 0
+Right : MachineModel → Place → ℕ → Call → Reply → MachineModel → Type 0
 Right m p n c a m' = Moves (has (view m p).pending n) (mark m.routes p n c a) (has (view m' p).pending n)
 
 raise_moves : (k n : ℕ) (v w : View) (r : Result Raised ControllerFault) → Raises v k r w → Moves (has v.pending n) (marked (eqb n k && accepted (raise_says r)) comes) (has w.pending n)
@@ -115,7 +114,7 @@ pump_moves limit c n m m' (Ok s) (b, f, e) =
     (goes_when (has m.hardware.pending n) (has s n) (λ h. (f.front.ready n h).pends))
 pump_moves limit c n m m' (Err d) (b, e) = none_when _ _ _ goes (has_none n) (ap (λ x. has x.hardware.pending n) e)
 
-hardware_moves : (m m' : MachineModel) (n : ℕ) (c : Call) (a : Answer) → Step m c a m' → Right m hardware n c a m'
+hardware_moves : (m m' : MachineModel) (n : ℕ) (c : Call) (a : Reply) → Step m c a m' → Right m hardware n c a m'
 unfolding Right
 hardware_moves m m' n (raise k) a x =
     let d = x.does in
@@ -168,7 +167,7 @@ delivery_moves : (b : Bool) (s s' t : StageModel) (n : ℕ) (r : Option ℕ) →
 delivery_moves true s s' t n r q h = subst (λ x. Moves (has x.own.pending n) (marked (found r n) goes) (has s'.own.pending n)) (q refl) h
 delivery_moves false s s' t n r q h = refl
 
-kernel_moves : (m m' : MachineModel) (k : Kernel) (n : ℕ) (c : Call) (a : Answer) → Routable m → Step m c a m' → Right m (kernel k) n c a m'
+kernel_moves : (m m' : MachineModel) (k : Kernel) (n : ℕ) (c : Call) (a : Reply) → Routable m → Step m c a m' → Right m (kernel k) n c a m'
 unfolding Right
 kernel_moves m m' k n (raise i) a f x = ap (λ y. has (y.stage k).own.pending n) x.does.2
 kernel_moves m m' k n (mask_hardware s) a f x = ap (λ y. has (y.stage k).own.pending n) x.does.2
@@ -192,7 +191,7 @@ kernel_moves m m' k n (to j c) a f x =
     (λ q. ap (λ z. has z n) (y.1.pending ∙ ap (λ z. (m.stage z).own.pending) (sym q))) refl)
 kernel_moves m m' k n (ask p q) a f x = ap (λ y. has (y.stage k).own.pending n) x.1
 
-step_moves : (m m' : MachineModel) (p : Place) (n : ℕ) (c : Call) (a : Answer) → Routable m → Step m c a m' → Right m p n c a m'
+step_moves : (m m' : MachineModel) (p : Place) (n : ℕ) (c : Call) (a : Reply) → Routable m → Step m c a m' → Right m p n c a m'
 step_moves m m' hardware n c a f x = hardware_moves m m' n c a x
 step_moves m m' (kernel k) n c a f x = kernel_moves m m' k n c a f x
 
@@ -202,7 +201,7 @@ pumps_routes : {E : Type 0} (limit c : ℕ) (m m' : MachineModel) (r : Result �
 pumps_routes limit c m m' (Ok s) (b, f, e) = ap (λ y. y.routes) e
 pumps_routes limit c m m' (Err d) (b, e) = ap (λ y. y.routes) e
 
-pub step_routes : (m m' : MachineModel) (c : Call) (a : Answer) → Step m c a m' → m'.routes ≡ m.routes
+pub step_routes : (m m' : MachineModel) (c : Call) (a : Reply) → Step m c a m' → m'.routes ≡ m.routes
 step_routes m m' (raise i) a x = ap (λ y. y.routes) x.does.2
 step_routes m m' (mask_hardware s) a x = ap (λ y. y.routes) x.does.2
 step_routes m m' (pump c) a x = pumps_routes 64 c m m' x.result x.does
@@ -220,7 +219,7 @@ stage_lines m m' j k s i e =
     subst (λ z. (z.stage k).own.lines ≡ (m.stage k).own.lines) (sym e)
     (stage_cases (λ z. z.own.lines ≡ (m.stage k).own.lines) m j s k (λ q. i ∙ ap (λ z. (m.stage z).own.lines) (sym q)) refl)
 
-step_lines : (m m' : MachineModel) (k : Kernel) (c : Call) (a : Answer) → Step m c a m' → (m'.stage k).own.lines ≡ (m.stage k).own.lines
+step_lines : (m m' : MachineModel) (k : Kernel) (c : Call) (a : Reply) → Step m c a m' → (m'.stage k).own.lines ≡ (m.stage k).own.lines
 step_lines m m' k (raise i) a x = ap (λ y. (y.stage k).own.lines) x.does.2
 step_lines m m' k (mask_hardware s) a x = ap (λ y. (y.stage k).own.lines) x.does.2
 step_lines m m' k (pump c) a x = pumps_lines 64 c k m m' x.result x.does
@@ -229,7 +228,7 @@ step_lines m m' k (next j) a x =
 step_lines m m' k (to j c) a x = let y = stage_leaves j m m' c a x in stage_lines m m' j k y.0 y.1.lines y.2
 step_lines m m' k (ask p q) a x = ap (λ y. (y.stage k).own.lines) x.1
 
-pub step_routable : (m m' : MachineModel) (c : Call) (a : Answer) → Routable m → Step m c a m' → Routable m'
+pub step_routable : (m m' : MachineModel) (c : Call) (a : Reply) → Routable m → Step m c a m' → Routable m'
 step_routable m m' c a f x k n h =
     subst (λ y. has y n ≡ true) (sym (step_lines m m' k c a x)) (f k n (subst (λ r. has (routed r k) n ≡ true) (step_routes m m' c a x) h))
 

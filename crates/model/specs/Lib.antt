@@ -6,3 +6,4 @@ pub mod Requests
 pub mod Promises
 pub mod Alone
 pub mod Examples
+pub mod Refusals

@@ -1,14 +1,12 @@
 -- The machine: a hardware controller and a stage for each kernel; what each call answers and leaves.
-use Rattle.std.specs.Prelude.{◌≡◌, ℕ, ◌<◌, ◌≤◌, Bool, true, false, cond, ◌⊎◌, List, [], ◌∷◌, Ok, Err, Result, ◌==◌, nat_lt}
+use Rattle.std.specs.Prelude.{◌≡◌, ℕ, ◌<◌, ◌≤◌, Bool, true, false, cond, ◌⊎◌, List, [], ◌∷◌, Ok, Err, Option, Result, ◌==◌, nat_lt}
 use Rattle.lines.specs.Sets.{union, common, size}
 use Rattle.lines.specs.declared.line_set.LineSet.{LineSet}
 use Rattle.controller.specs.declared.fault.ControllerFault.{ControllerFault}
 use Rattle.controller.specs.declared.fault.Raised.{Raised}
-use Rattle.controller.specs.Faults.{fault_number}
 use Rattle.controller.specs.View.{View, Deliverable, Serving, set_pending}
 use Rattle.controller.specs.Calls.{Raises, Masks, Takes, Ends}
 use Rattle.spl.specs.declared.fault.LevelFault.{LevelFault}
-use Rattle.spl.specs.Faults.{level_fault_number}
 use Rattle.model.specs.declared.calls.Kernel.{Kernel}
 use Rattle.model.specs.declared.calls.Kernel.TheVariants.{Head as head, Root as root}
 use Rattle.model.specs.declared.calls.Place.{Place}
@@ -20,7 +18,9 @@ use Rattle.model.specs.declared.calls.StageCall.TheVariants.{Done as done, Mask 
 use Rattle.model.specs.declared.calls.Call.{Call}
 use Rattle.model.specs.declared.calls.Call.TheVariants.{Raise as raise, MaskHardware as mask_hardware, Pump as pump, Next as next, To as to, Ask as ask}
 use Rattle.model.specs.declared.calls.Answer.{Answer}
-use Rattle.model.specs.declared.calls.Answer.TheVariants.{Raised as raised, Masked as mask_set, Arrived as arrived, Delivered as delivered, Held as held, Busy as busy, Ended as ended, WasStalled as was_stalled, WasAtLevel as was_at_level, Told as set_told, Refused as refused}
+use Rattle.model.specs.declared.fault.Fault.TheVariants.{Controller, Level, OverLimit}
+use Rattle.model.specs.declared.fault.MachineFault.{MachineFault}
+use Rattle.model.specs.declared.calls.Answer.TheVariants.{Raised as raised, Masked as mask_set, Arrived as arrived, Delivered as delivered, Held as held, Busy as busy, Ended as ended, WasStalled as was_stalled, WasAtLevel as was_at_level, Told as set_told}
 use Rattle.model.specs.Arrivals.{Arrivals, cleared}
 use Rattle.model.specs.Stage.{StageModel, told, set_own, Through, SetsStalled, SetsStageLevel}
 
@@ -135,51 +135,60 @@ pub record Answered {S X A : Type 0} (R : S → X → S → Type 0) (says : X �
   pub does : R s result s'
   pub answers : a ≡ says result
 
--- the answer b, and the machine left as it was
-abbrev pub Only : Answer → MachineModel → Answer → MachineModel → Type 0
+-- what a call is answered: an answer, or a refusal with its place
+abbrev pub Reply : Type 0
+Reply = Result Answer MachineFault
+
+-- the reply b, and the machine left as it was
+abbrev pub Only : Reply → MachineModel → Reply → MachineModel → Type 0
 Only b m a m' = (a ≡ b) × (m' ≡ m)
 
--- what each result is as an answer: a refusal by its number and place
-abbrev pub raise_says : Result Raised ControllerFault → Answer
-raise_says (Ok r) = raised r
-raise_says (Err e) = refused (fault_number e) hardware
+-- what each result is as a reply: a refusal is the controller's or the stage's own, with its place
+abbrev pub raise_says : Result Raised ControllerFault → Reply
+raise_says (Ok r) = Ok (raised r)
+raise_says (Err e) = Err (record { fault = Controller e; place = hardware })
 
-abbrev pub mask_says : Place → Result (Unit {0}) ControllerFault → Answer
-mask_says p (Ok u) = mask_set
-mask_says p (Err e) = refused (fault_number e) p
+abbrev pub mask_says : Place → Result (Unit {0}) ControllerFault → Reply
+mask_says p (Ok u) = Ok mask_set
+mask_says p (Err e) = Err (record { fault = Controller e; place = p })
 
-abbrev pub done_says : Kernel → Result ℕ ControllerFault → Answer
-done_says k (Ok n) = ended n
-done_says k (Err e) = refused (fault_number e) (kernel k)
+abbrev pub done_says : Kernel → Result ℕ ControllerFault → Reply
+done_says k (Ok n) = Ok (ended n)
+done_says k (Err e) = Err (record { fault = Controller e; place = kernel k })
 
-abbrev pub level_says : Kernel → Result ℕ LevelFault → Answer
-level_says k (Ok c) = was_at_level c
-level_says k (Err e) = refused (level_fault_number e) (kernel k)
+abbrev pub level_says : Kernel → Result ℕ LevelFault → Reply
+level_says k (Ok c) = Ok (was_at_level c)
+level_says k (Err e) = Err (record { fault = Level e; place = kernel k })
 
--- 9: a pump of more than the limit
-abbrev pub pump_says : {E : Type 0} → Result ℕ E → Answer
-pump_says (Ok s) = arrived (size s) (set_of s)
-pump_says (Err e) = refused 9 hardware
+abbrev pub pump_says : {E : Type 0} → Result ℕ E → Reply
+pump_says (Ok s) = Ok (arrived (size s) (set_of s))
+pump_says (Err e) = Err (record { fault = OverLimit; place = hardware })
+
+abbrev pub take_says : Option ℕ → Reply
+take_says r = Ok (delivered r)
+
+abbrev pub stall_says : Bool → Reply
+stall_says b = Ok (was_stalled b)
 
 -- next for kernel k: held, else busy, else the first deliverable line of its stage or none
-abbrev pub Nexts : Kernel → MachineModel → Answer → MachineModel → Type 0
+abbrev pub Nexts : Kernel → MachineModel → Reply → MachineModel → Type 0
 Nexts k m a m' =
-    (Held m k × Only held m a m')
-    ⊎ (((Held m k → ⊥) × Busy m k × Only busy m a m') ⊎ ((Held m k → ⊥) × (Busy m k → ⊥) × Answered (AtStage k (Through Takes)) delivered m a m'))
+    (Held m k × Only (Ok held) m a m')
+    ⊎ (((Held m k → ⊥) × Busy m k × Only (Ok busy) m a m') ⊎ ((Held m k → ⊥) × (Busy m k → ⊥) × Answered (AtStage k (Through Takes)) take_says m a m'))
 
 -- the calls of the stage of kernel k
-abbrev pub StageStep : Kernel → MachineModel → StageCall → Answer → MachineModel → Type 0
+abbrev pub StageStep : Kernel → MachineModel → StageCall → Reply → MachineModel → Type 0
 StageStep k m done a m' = Answered (AtStage k (Through Ends)) (done_says k) m a m'
 StageStep k m (mask s) a m' = Answered (AtStage k (Through (λ v. Masks v s.bits))) (mask_says (kernel k)) m a m'
-StageStep k m stall a m' = Answered (AtStage k (SetsStalled true)) was_stalled m a m'
-StageStep k m unstall a m' = Answered (AtStage k (SetsStalled false)) was_stalled m a m'
+StageStep k m stall a m' = Answered (AtStage k (SetsStalled true)) stall_says m a m'
+StageStep k m unstall a m' = Answered (AtStage k (SetsStalled false)) stall_says m a m'
 StageStep k m (set_level c) a m' = Answered (AtStage k (SetsStageLevel c)) (level_says k) m a m'
 
 -- what each call answers and leaves
-abbrev pub Step : MachineModel → Call → Answer → MachineModel → Type 0
+abbrev pub Step : MachineModel → Call → Reply → MachineModel → Type 0
 Step m (raise n) a m' = Answered (AtHardware (λ v. Raises v n)) raise_says m a m'
 Step m (mask_hardware s) a m' = Answered (AtHardware (λ v. Masks v s.bits)) (mask_says hardware) m a m'
 Step m (pump n) a m' = Answered (Pumps {E = Unit {0}} 64 n) pump_says m a m'
 Step m (next k) a m' = Nexts k m a m'
 Step m (to k c) a m' = StageStep k m c a m'
-Step m (ask p q) a m' = Only (set_told (set_of (tells (view m p) q))) m a m'
+Step m (ask p q) a m' = Only (Ok (set_told (set_of (tells (view m p) q)))) m a m'

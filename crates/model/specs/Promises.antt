@@ -1,5 +1,5 @@
 -- What holds of every list of calls, however long and however full of refusals, from a fresh start.
-use Rattle.std.specs.Prelude.{◌≡◌, ℕ, Bool, true, false, not, List, Decides, filter}
+use Rattle.std.specs.Prelude.{◌≡◌, ℕ, Bool, true, false, not, List, Decides, filter, Ok}
 use Rattle.lines.specs.Sets.{has, size}
 use Rattle.lines.specs.declared.line_set.LineSet.{LineSet}
 use Rattle.controller.specs.View.{View, Sound, Deliverable}
@@ -9,11 +9,10 @@ use Rattle.model.specs.declared.calls.Place.{Place}
 use Rattle.model.specs.declared.calls.Place.TheVariants.{Hardware as hardware, Kernel as kernel}
 use Rattle.model.specs.declared.calls.Call.{Call}
 use Rattle.model.specs.declared.calls.Call.TheVariants.{Raise as raise, MaskHardware as mask_hardware, Pump as pump, Next as next, To as to, Ask as ask}
-use Rattle.model.specs.declared.calls.Answer.{Answer}
 use Rattle.model.specs.declared.calls.Answer.TheVariants.{Arrived as arrived}
 use Rattle.model.specs.Arrivals.{Arrivals, SetOf, Passes, cleared}
 use Rattle.model.specs.Stage.{StageModel, told, Through}
-use Rattle.model.specs.Machine.{MachineModel, Routes, before, same, routed, view, Step}
+use Rattle.model.specs.Machine.{MachineModel, Routes, before, same, routed, view, Step, Reply}
 use Rattle.model.specs.Run.{Entry, calls, answers, Run, Fresh, Routable, MadeAlike}
 use Rattle.model.specs.Requests.{Mark, marks, strike, InTurn}
 
@@ -80,7 +79,7 @@ Apart k =
 -- a pump's count is the size of its set, and the smaller of the number asked for and the number of deliverable lines
 abbrev pub PumpCounts : (ℕ → ℕ → ℕ) → Type 0
 PumpCounts smaller =
-    (m m' : MachineModel) (n c u : ℕ) (s : LineSet) → Step m (pump n) (arrived c s) m' → SetOf (Deliverable m.hardware) u
+    (m m' : MachineModel) (n c u : ℕ) (s : LineSet) → Step m (pump n) (Ok (arrived c s)) m' → SetOf (Deliverable m.hardware) u
     → (c ≡ size s.bits) × (c ≡ smaller n (size u))
 
 -- the arrivals are the lines that go when up to n lines are taken and ended one after another, and nothing else changes
@@ -94,7 +93,7 @@ Determined {X} R = (v w x : View) (r q : X) → Sound v → R v r w → R v q x 
 -- what a pump answers is determined by what the hardware tells, and what it leaves by the machine
 abbrev pub PumpDetermined : Type 0
 PumpDetermined =
-    (m k m' k' : MachineModel) (n : ℕ) (a b : Answer) → Sound m.hardware → m.hardware ≡ k.hardware
+    (m k m' k' : MachineModel) (n : ℕ) (a b : Reply) → Sound m.hardware → m.hardware ≡ k.hardware
     → Step m (pump n) a m' → Step k (pump n) b k' → (a ≡ b) × (m ≡ k → m' ≡ k')
 
 -- a line is routed to a kernel exactly when the kernel handles it and every kernel before it passes it on

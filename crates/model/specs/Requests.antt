@@ -1,13 +1,12 @@
 -- The requests of one line at one place, as a run shows them: how they come and go.
-use Rattle.std.specs.Prelude.{◌≡◌, ℕ, Bool, true, false, ◌&&◌, List, [], ◌∷◌, Some, None, Option, ◌==◌}
+use Rattle.std.specs.Prelude.{◌≡◌, ℕ, Bool, true, false, ◌&&◌, List, [], ◌∷◌, Some, None, Option, Ok, Err, ◌==◌}
 use Rattle.lines.specs.Sets.{has}
 use Rattle.model.specs.declared.calls.Place.{Place}
 use Rattle.model.specs.declared.calls.Place.TheVariants.{Hardware as hardware, Kernel as kernel}
 use Rattle.model.specs.declared.calls.Call.{Call}
 use Rattle.model.specs.declared.calls.Call.TheVariants.{Raise as raise, MaskHardware as mask_hardware, Pump as pump, Next as next, To as to, Ask as ask}
-use Rattle.model.specs.declared.calls.Answer.{Answer}
-use Rattle.model.specs.declared.calls.Answer.TheVariants.{Raised as raised, Masked as mask_set, Arrived as arrived, Delivered as delivered, Held as held, Busy as busy, Ended as ended, WasStalled as was_stalled, WasAtLevel as was_at_level, Told as set_told, Refused as refused}
-use Rattle.model.specs.Machine.{Routes, routed, same}
+use Rattle.model.specs.declared.calls.Answer.TheVariants.{Raised as raised, Masked as mask_set, Arrived as arrived, Delivered as delivered, Held as held, Busy as busy, Ended as ended, WasStalled as was_stalled, WasAtLevel as was_at_level, Told as set_told}
+use Rattle.model.specs.Machine.{Routes, Reply, routed, same}
 use Rattle.model.specs.Run.{Entry}
 
 -- a request comes to a place (an accepted raise at the hardware, an arrival routed to a kernel), and goes from it (an arrival, a delivery)
@@ -15,32 +14,32 @@ pub data Mark : Type 0 where
   comes goes : Mark
 
 -- a raise answered new or merged
-abbrev pub accepted : Answer → Bool
-accepted (raised r) = true
-accepted mask_set = false
-accepted (arrived c s) = false
-accepted (delivered r) = false
-accepted held = false
-accepted busy = false
-accepted (ended n) = false
-accepted (was_stalled b) = false
-accepted (was_at_level c) = false
-accepted (set_told s) = false
-accepted (refused e p) = false
+abbrev pub accepted : Reply → Bool
+accepted (Ok (raised r)) = true
+accepted (Ok mask_set) = false
+accepted (Ok (arrived c s)) = false
+accepted (Ok (delivered r)) = false
+accepted (Ok held) = false
+accepted (Ok busy) = false
+accepted (Ok (ended n)) = false
+accepted (Ok (was_stalled b)) = false
+accepted (Ok (was_at_level c)) = false
+accepted (Ok (set_told s)) = false
+accepted (Err e) = false
 
 -- the set of a pump's arrivals
-abbrev pub arrivals : Answer → ℕ
-arrivals (raised r) = 0
-arrivals mask_set = 0
-arrivals (arrived c s) = s.bits
-arrivals (delivered r) = 0
-arrivals held = 0
-arrivals busy = 0
-arrivals (ended n) = 0
-arrivals (was_stalled b) = 0
-arrivals (was_at_level c) = 0
-arrivals (set_told s) = 0
-arrivals (refused e p) = 0
+abbrev pub arrivals : Reply → ℕ
+arrivals (Ok (raised r)) = 0
+arrivals (Ok mask_set) = 0
+arrivals (Ok (arrived c s)) = s.bits
+arrivals (Ok (delivered r)) = 0
+arrivals (Ok held) = 0
+arrivals (Ok busy) = 0
+arrivals (Ok (ended n)) = 0
+arrivals (Ok (was_stalled b)) = 0
+arrivals (Ok (was_at_level c)) = 0
+arrivals (Ok (set_told s)) = 0
+arrivals (Err e) = 0
 
 -- whether line n was found
 abbrev pub found : Option ℕ → ℕ → Bool
@@ -48,25 +47,25 @@ found (Some k) n = n == k
 found None n = false
 
 -- whether line n is delivered
-abbrev pub delivers : Answer → ℕ → Bool
-delivers (raised r) n = false
-delivers mask_set n = false
-delivers (arrived c s) n = false
-delivers (delivered r) n = found r n
-delivers held n = false
-delivers busy n = false
-delivers (ended k) n = false
-delivers (was_stalled b) n = false
-delivers (was_at_level c) n = false
-delivers (set_told s) n = false
-delivers (refused e p) n = false
+abbrev pub delivers : Reply → ℕ → Bool
+delivers (Ok (raised r)) n = false
+delivers (Ok mask_set) n = false
+delivers (Ok (arrived c s)) n = false
+delivers (Ok (delivered r)) n = found r n
+delivers (Ok held) n = false
+delivers (Ok busy) n = false
+delivers (Ok (ended k)) n = false
+delivers (Ok (was_stalled b)) n = false
+delivers (Ok (was_at_level c)) n = false
+delivers (Ok (set_told s)) n = false
+delivers (Err e) n = false
 
 abbrev pub marked : Bool → Mark → Option Mark
 marked true x = Some x
 marked false x = None
 
 -- what a call and its answer say of the requests of line n at a place
-abbrev pub mark : Routes → Place → ℕ → Call → Answer → Option Mark
+abbrev pub mark : Routes → Place → ℕ → Call → Reply → Option Mark
 mark r hardware n (raise k) a = marked (n == k && accepted a) comes
 mark r hardware n (mask_hardware s) a = None
 mark r hardware n (pump c) a = marked (has (arrivals a) n) goes

@@ -4,18 +4,17 @@ use Rattle.lines.specs.Sets.{has}
 use Rattle.controller.specs.View.{View, Sound, ahead, fresh}
 use Rattle.model.specs.declared.calls.Kernel.{Kernel}
 use Rattle.model.specs.declared.calls.Call.{Call}
-use Rattle.model.specs.declared.calls.Answer.{Answer}
-use Rattle.model.specs.Machine.{MachineModel, Step, routed}
+use Rattle.model.specs.Machine.{MachineModel, Reply, Step, routed}
 
 -- a call with its answer
 pub record Entry : Type 0 where
   pub call : Call
-  pub answer : Answer
+  pub answer : Reply
 
 abbrev pub calls : List Entry → List Call
 calls h = map (λ e. e.call) h
 
-abbrev pub answers : List Entry → List Answer
+abbrev pub answers : List Entry → List Reply
 answers h = map (λ e. e.answer) h
 
 -- the calls of h, answered as it says one after another, lead from m to m'

@@ -1,23 +1,24 @@
 // The calls of a running machine and what they answer.
+use crate::MachineFault;
 use controller::Raised;
 use lines::LineSet;
 
 // The kernels, in the order of the pipeline.
-#[derive(Clone, Copy)]
+#[derive(Clone, Copy, Debug, PartialEq, Eq)]
 pub enum Kernel {
     Head,
     Root,
 }
 
 // Where a call was answered: at the hardware controller or at a kernel's stage.
-#[derive(Clone, Copy)]
+#[derive(Clone, Copy, Debug, PartialEq, Eq)]
 pub enum Place {
     Hardware,
     Kernel(Kernel),
 }
 
 // What can be asked of a place: its lines and its four sets.
-#[derive(Clone, Copy)]
+#[derive(Clone, Copy, Debug, PartialEq, Eq)]
 pub enum Question {
     Lines,
     Pending,
@@ -27,7 +28,7 @@ pub enum Question {
 }
 
 // The calls of a kernel's stage that no other stage has a say in.
-#[derive(Clone, Copy)]
+#[derive(Clone, Copy, Debug, PartialEq, Eq)]
 pub enum StageCall {
     Done,
     Mask(LineSet),
@@ -38,7 +39,7 @@ pub enum StageCall {
 }
 
 // The calls of a running machine.
-#[derive(Clone, Copy)]
+#[derive(Clone, Copy, Debug, PartialEq, Eq)]
 pub enum Call {
     Raise(u8),
     MaskHardware(LineSet),
@@ -49,8 +50,8 @@ pub enum Call {
     Ask(Place, Question),
 }
 
-// What a call answers.
-#[derive(Clone, Copy)]
+// What a call answers: a variant for each word that can be listed, next's three among them.
+#[derive(Clone, Copy, Debug, PartialEq, Eq)]
 pub enum Answer {
     // raise
     Raised(Raised),
@@ -72,6 +73,7 @@ pub enum Answer {
     WasAtLevel(u8),
     // a question
     Told(LineSet),
-    // a refusal by its number, which leaves the machine as it was
-    Refused { number: u8, place: Place },
 }
+
+// What a call is answered: an answer, or a refusal, which leaves the machine as it was.
+pub type Reply = Result<Answer, MachineFault>;

@@ -2,10 +2,13 @@
 #![tactic(auto)]
 
 mod calls;
+mod fault;
+mod number;
 mod promises;
 mod shown;
 
-pub use calls::{Answer, Call, Kernel, Place, Question, StageCall};
+pub use calls::{Answer, Call, Kernel, Place, Question, Reply, StageCall};
+pub use fault::{At, Fault, HeadSeat, MachineFault, RootSeat, Seat};
 pub use promises::{
     alike_machines_answer_alike, arrivals_are_taken_and_ended, every_list_runs,
     examples_are_played, no_kernel_disturbs_those_ahead, no_request_is_lost_or_doubled,

@@ -1,2 +1,3 @@
 pub mod Logging
 pub mod Logged
+pub mod Layer

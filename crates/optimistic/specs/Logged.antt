@@ -1,5 +1,5 @@
 -- What the optimistic layer tells, through each of its calls.
-use Rattle.std.specs.Prelude.{◌≡◌, ℕ, true, false, cond, Ok, Err, Result, refl}
+use Rattle.std.specs.Prelude.{◌≡◌, ℕ, true, false, cond, Some, None, Option, Ok, Err, Result, refl}
 use Rattle.std.proofs.Common.{sym, ap, subst, ◌∙◌, inl, inr, arith}
 use Rattle.std.proofs.lemmas.Bool.Decides.{nat_tests}
 use Rattle.std.proofs.lemmas.Bool.{both_ways, or_cases, cond-true}
@@ -10,7 +10,7 @@ use Rattle.controller.specs.declared.fault.ControllerFault.{ControllerFault}
 use Rattle.controller.specs.declared.fault.Raised.{Raised}
 use Rattle.controller.specs.declared.fault.Raised.TheVariants.{New, Merged}
 use Rattle.controller.specs.View.{View, Sound, set_masked, set_pending}
-use Rattle.controller.specs.Calls.{Raises, Masks, Ends}
+use Rattle.controller.specs.Calls.{Raises, Masks, Takes, Ends}
 use Rattle.controller.proofs.Keeps.{pending_sound, masked_sound, in_less}
 use Rattle.optimistic.specs.Logging.{logged, Logging, freed}
 
@@ -46,6 +46,20 @@ end_told v soft log (Err e) w h = (h.0, h.1, ap (λ u. logged u soft log) h.2)
 pub end_consistent : (v : View) (soft log : ℕ) → Logging v soft log → (r : Result ℕ ControllerFault) (w : View) → Ends v r w → Logging w soft log
 end_consistent v soft log i (Ok n) w h = subst (λ u. Logging u soft log) (sym h.1) (record { mask = i.mask; inside = i.inside; soft_in = i.soft_in })
 end_consistent v soft log i (Err e) w h = subst (λ u. Logging u soft log) (sym h.2) i
+
+-- a line is taken below
+pub take_consistent : (v : View) (soft log : ℕ) → Logging v soft log → (r : Option ℕ) (w : View) → Takes v r w → Logging w soft log
+take_consistent v soft log i (Some n) w h = subst (λ u. Logging u soft log) (sym h.1) (record { mask = i.mask; inside = i.inside; soft_in = i.soft_in })
+take_consistent v soft log i None w h = subst (λ u. Logging u soft log) (sym h.1) i
+
+-- the log becomes a part of the soft mask, and so does the mask below
+pub log_consistent : (v : View) (soft log log' : ℕ) → Logging v soft log → Within log' soft → (r : Result (Unit {0}) ControllerFault) (w : View) → Masks v log' r w → Logging w soft log'
+log_consistent v soft log log' i h (Ok a) w m = subst (λ u. Logging u soft log') (sym m.1) (record { mask = refl; inside = h; soft_in = i.soft_in })
+log_consistent v soft log log' i h (Err e) w m = absurd (m.0 (λ n x. i.soft_in n (h n x)))
+
+-- a part of the log is within the soft mask
+pub part_in : (soft log set : ℕ) → Within log soft → Within (common log set) soft
+part_in soft log set h n x = h n (let e = has-common log set n in grind (arith, nat_tests))
 
 -- a mask within the lines
 module _ (v : View) (soft log set : ℕ) (i : Logging v soft log) (in_lines : Within set v.lines) where

@@ -5,27 +5,18 @@ use Rattle.controller.specs.declared.fault.ControllerFault.{ControllerFault}
 use Rattle.controller.specs.declared.fault.ControllerFault.TheVariants.{MaskOutside}
 use Rattle.controller.specs.declared.fault.Raised.{Raised}
 use Rattle.controller.specs.declared.fault.Raised.TheVariants.{Merged}
-use Rattle.controller.specs.declared.interface.Controller.{Ghosts}
 use Rattle.controller.specs.Calls.{Raises}
 use Rattle.controller.specs.View.{View, Deliverable, ahead, raised, taken, set_pending, set_masked}
-use Rattle.optimistic.specs.declared.layer.Optimistic.{Optimistic}
 
 -- what the layer tells over a controller: masked is the soft mask, pending is the log with what is pending below
 abbrev pub logged : View → ℕ → ℕ → View
 logged v soft log = set_masked (set_pending v (union log v.pending)) soft
 
--- the layer is consistent: the mask below is exactly the log, and the log lies within the soft mask, which lies within the lines
+-- what the layer keeps: the mask below is exactly the log, and the log lies within the soft mask, which lies within the lines
 pub record Logging (v : View) (soft log : ℕ) : Type 0 where
   pub mask : v.masked ≡ log
   pub inside : Within log soft
   pub soft_in : Within soft v.lines
-
--- what the layer tells, and that it and the controller below are consistent
-abbrev pub layer_view : {C L : Type 0} → Ghosts C L → Optimistic C L → View
-layer_view c s = logged (c.view s.below) s.soft.bits s.log.bits
-
-abbrev pub LayerConsistent : {C L : Type 0} → Ghosts C L → Optimistic C L → Type 0
-LayerConsistent c s = c.consistent s.below × Logging (c.view s.below) s.soft.bits s.log.bits
 
 -- what a raise does below: one of a logged line merges, and it is left open whether the line is latched below too; any other is made below
 abbrev pub Latches : Bool → View → ℕ → Result Raised ControllerFault → View → Type 0

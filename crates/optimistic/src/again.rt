@@ -8,9 +8,7 @@ use lines::LineSet;
 
 // Raises each line of the set.
 pub(crate) fn raise_lines<C: Controller>(below: &mut C, set: LineSet)
-    requires consistent { C.Controller.consistent below.old }
-    requires within { Within set.bits (C.Controller.view below.old).lines }
-    ensures keeps { C.Controller.consistent below.new }
+    requires { Within set.bits (C.Controller.view below.old).lines }
     ensures fixed { C.Controller.ranks below.new ≡ C.Controller.ranks below.old }
     ensures leaves { C.Controller.view below.new ≡ set_pending (C.Controller.view below.old) (union (C.Controller.view below.old).pending set.bits) }
 {

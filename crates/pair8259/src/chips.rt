@@ -2,7 +2,7 @@
 ghost use Rattle.pair8259.specs.Chips.{Cascaded};
 
 // One chip: a byte each of interrupt requests, interrupt mask and lines in service, with bit n for input n.
-#[derive(Clone, Copy)]
+#[derive(Clone, Copy, Debug, Default, PartialEq, Eq)]
 pub struct Chip {
     pub requests: u8,
     pub mask: u8,
@@ -10,7 +10,7 @@ pub struct Chip {
 }
 
 // The master's in-service bit 2 is set exactly when some slave in-service bit is set.
-#[derive(Clone, Copy)]
+#[derive(Clone, Copy, Debug, PartialEq, Eq)]
 pub struct Chips {
     pub(crate) master: Chip,
     pub(crate) slave: Chip,

@@ -2,11 +2,12 @@
 ghost use Rattle.std.specs.Prelude.{◌≡◌, ℕ, Bool, true, false};
 ghost use Rattle.lines.specs.Sets.{has, only};
 ghost use Rattle.bank.specs.Contents.{clear, latched, mask_written, acknowledged, retired};
+ghost use Rattle.pair8259.specs.Chips.{joined};
 ghost use Rattle.pair8259.specs.Pair.{pair_lines, pair_level, pair_order, pair_contents};
 ghost use Rattle.std.proofs.Common.{rules, arith};
 ghost use Rattle.pair8259.specs.Joined.{line_below};
 
-use crate::bytes::{cascaded, joined, split, with_line, without_line};
+use crate::bytes::Bytes;
 use crate::{Chip, Chips};
 use bank::{Bank, Registers};
 use controller::Ranking;
@@ -20,77 +21,59 @@ pub type Pair8259 = Bank<Chips>;
 const LINES: LineSet = LineSet { bits: 0xfffb };
 
 impl Chips {
-    // With the line requested.
-    fn requested(self, line: u8) -> Self
-        requires { has 0xfffb line ≡ true }
-        ensures { pair_contents result ≡ latched pair_lines (pair_contents self) line }
+    // The bytes of interrupt requests.
+    fn requests(self) -> Bytes
+        ensures { joined result.master result.slave ≡ (pair_contents self).pending }
     {
-        let (master, slave) = with_line(self.master.requests, self.slave.requests, line);
-        Chips {
-            master: Chip {
-                requests: master,
-                ..self.master
-            },
-            slave: Chip {
-                requests: slave,
-                ..self.slave
-            },
+        Bytes {
+            master: self.master.requests,
+            slave: self.slave.requests,
         }
     }
 
-    // With the mask written.
-    fn masking(self, set: LineSet) -> Self
-        ensures { pair_contents result ≡ mask_written pair_lines (pair_contents self) set.bits }
+    // The bytes of the interrupt masks.
+    fn masks(self) -> Bytes
+        ensures { joined result.master result.slave ≡ (pair_contents self).masked }
     {
-        let (master, slave) = split(set);
-        Chips {
-            master: Chip {
-                mask: master,
-                ..self.master
-            },
-            slave: Chip {
-                mask: slave,
-                ..self.slave
-            },
+        Bytes {
+            master: self.master.mask,
+            slave: self.slave.mask,
         }
     }
 
-    // With the line in service and no longer requested.
-    fn acknowledged(self, line: u8) -> Self
-        requires { has 0xfffb line ≡ true }
-        ensures { pair_contents result ≡ acknowledged pair_lines (pair_contents self) line }
+    // The bytes of the lines in service.
+    fn served(self) -> Bytes
+        ensures { joined result.master result.slave ≡ (pair_contents self).in_service }
     {
-        let (master, slave) = without_line(self.master.requests, self.slave.requests, line);
-        let (on_master, on_slave) = with_line(self.master.in_service, self.slave.in_service, line);
-        Chips {
-            master: Chip {
-                requests: master,
-                mask: self.master.mask,
-                in_service: cascaded(on_master, on_slave),
-            },
-            slave: Chip {
-                requests: slave,
-                mask: self.slave.mask,
-                in_service: on_slave,
-            },
+        Bytes {
+            master: self.master.in_service,
+            slave: self.slave.in_service,
         }
     }
 
-    // With the line no longer in service.
-    fn retired(self, line: u8) -> Self
-        ensures { pair_contents result ≡ retired (pair_contents self) line }
+    // Writes the interrupt requests.
+    fn set_requests(&mut self, bytes: Bytes)
+        ensures { pair_contents self.new ≡ record { pending = joined bytes.master bytes.slave; masked = (pair_contents self.old).masked; in_service = (pair_contents self.old).in_service } }
     {
-        let (master, slave) = without_line(self.master.in_service, self.slave.in_service, line);
-        Chips {
-            master: Chip {
-                in_service: cascaded(master, slave),
-                ..self.master
-            },
-            slave: Chip {
-                in_service: slave,
-                ..self.slave
-            },
-        }
+        self.master.requests = bytes.master;
+        self.slave.requests = bytes.slave;
+    }
+
+    // Writes the interrupt masks.
+    fn set_masks(&mut self, bytes: Bytes)
+        ensures { pair_contents self.new ≡ record { pending = (pair_contents self.old).pending; masked = joined bytes.master bytes.slave; in_service = (pair_contents self.old).in_service } }
+    {
+        self.master.mask = bytes.master;
+        self.slave.mask = bytes.slave;
+    }
+
+    // Writes the lines in service, and the cascade's bit among them.
+    fn set_served(&mut self, bytes: Bytes)
+        ensures { pair_contents self.new ≡ record { pending = (pair_contents self.old).pending; masked = (pair_contents self.old).masked; in_service = joined bytes.master bytes.slave } }
+    {
+        let bytes = bytes.cascaded();
+        self.master.in_service = bytes.master;
+        self.slave.in_service = bytes.slave;
     }
 }
 
@@ -127,15 +110,11 @@ impl Registers for Chips {
 
     ghost some = { first_of (Prim.search rules, Prim.grind (arith, Self.row.coded.inj)) };
 
+    #[tactic(auto, using(crate::specs::Joined::empty))]
     fn cleared() -> Chips {
-        let chip = Chip {
-            requests: 0,
-            mask: 0,
-            in_service: 0,
-        };
         Chips {
-            master: chip,
-            slave: chip,
+            master: Chip::default(),
+            slave: Chip::default(),
         }
     }
 
@@ -144,34 +123,35 @@ impl Registers for Chips {
     }
 
     fn pending(&self) -> LineSet {
-        joined(self.master.requests, self.slave.requests)
+        self.requests().lines()
     }
 
     fn masked(&self) -> LineSet {
-        joined(self.master.mask, self.slave.mask)
+        self.masks().lines()
     }
 
     fn in_service(&self) -> LineSet {
-        joined(self.master.in_service, self.slave.in_service)
+        self.served().lines()
     }
 
     fn latch(&mut self, line: u8) {
         if LINES.contains(line) {
-            *self = self.requested(line);
+            self.set_requests(self.requests().with(line));
         }
     }
 
     fn write_mask(&mut self, set: LineSet) {
-        *self = self.masking(set);
+        self.set_masks(Bytes::from(set));
     }
 
     fn acknowledge(&mut self, line: u8) {
         if LINES.contains(line) {
-            *self = self.acknowledged(line);
+            self.set_requests(self.requests().without(line));
+            self.set_served(self.served().with(line));
         }
     }
 
     fn retire(&mut self, line: u8) {
-        *self = self.retired(line);
+        self.set_served(self.served().without(line));
     }
 }

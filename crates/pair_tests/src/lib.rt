@@ -11,60 +11,58 @@ mod tests {
     #[test]
     fn lines_come_in_the_order_of_their_levels(rt: HostRuntime) {
         let mut pair = Pair8259::new();
-        assert!(rt; matches!(pair.raise(3), Ok(Raised::New)));
-        assert!(rt; matches!(pair.raise(8), Ok(Raised::New)));
-        assert!(rt; matches!(pair.raise(1), Ok(Raised::New)));
-        assert!(rt; pair.take() == Some(1));
-        assert!(rt; matches!(pair.end(), Ok(1)));
-        assert!(rt; pair.take() == Some(8));
-        assert!(rt; matches!(pair.end(), Ok(8)));
-        assert!(rt; pair.take() == Some(3));
-        assert!(rt; matches!(pair.end(), Ok(3)));
-        assert!(rt; pair.take() == None);
-        assert!(rt; matches!(pair.end(), Err(ControllerFault::NothingInService)));
+        assert_eq!(rt; pair.raise(3), Ok(Raised::New));
+        assert_eq!(rt; pair.raise(8), Ok(Raised::New));
+        assert_eq!(rt; pair.raise(1), Ok(Raised::New));
+        assert_eq!(rt; pair.take(), Some(1));
+        assert_eq!(rt; pair.end(), Ok(1));
+        assert_eq!(rt; pair.take(), Some(8));
+        assert_eq!(rt; pair.end(), Ok(8));
+        assert_eq!(rt; pair.take(), Some(3));
+        assert_eq!(rt; pair.end(), Ok(3));
+        assert_eq!(rt; pair.take(), None);
+        assert_eq!(rt; pair.end(), Err(ControllerFault::NothingInService));
     }
 
     #[test]
     fn other_lines_are_refused(rt: HostRuntime) {
         let mut pair = Pair8259::new();
-        assert!(rt; matches!(pair.raise(15), Ok(Raised::New)));
-        assert!(rt; matches!(pair.raise(15), Ok(Raised::Merged)));
-        assert!(rt; matches!(pair.raise(2), Err(ControllerFault::NoSuchLine)));
-        assert!(rt; matches!(pair.raise(16), Err(ControllerFault::NoSuchLine)));
-        assert!(rt; matches!(pair.level(2), Err(ControllerFault::NoSuchLine)));
-        assert!(rt; pair.pending() == LineSet::new(0x8000));
-        assert!(rt; ControllerFault::NoSuchLine.number() == 1);
+        assert_eq!(rt; pair.raise(15), Ok(Raised::New));
+        assert_eq!(rt; pair.raise(15), Ok(Raised::Merged));
+        assert_eq!(rt; pair.raise(2), Err(ControllerFault::NoSuchLine));
+        assert_eq!(rt; pair.raise(16), Err(ControllerFault::NoSuchLine));
+        assert_eq!(rt; pair.level(2), Err(ControllerFault::NoSuchLine));
+        assert_eq!(rt; pair.pending(), LineSet::new(0x8000));
+        assert_eq!(rt; ControllerFault::NoSuchLine.number(), 1);
     }
 
     #[test]
     fn slave_lines_nest(rt: HostRuntime) {
         let mut pair = Pair8259::new();
         let _ = pair.raise(3);
-        assert!(rt; pair.take() == Some(3));
+        assert_eq!(rt; pair.take(), Some(3));
         let _ = pair.raise(9);
-        assert!(rt; pair.take() == Some(9));
+        assert_eq!(rt; pair.take(), Some(9));
         let _ = pair.raise(10);
-        assert!(rt; pair.take() == None);
+        assert_eq!(rt; pair.take(), None);
         let _ = pair.raise(8);
-        assert!(rt; pair.take() == Some(8));
-        assert!(rt; matches!(pair.end(), Ok(8)));
-        assert!(rt; pair.take() == None);
-        assert!(rt; pair.in_service() == LineSet::new(0x208));
+        assert_eq!(rt; pair.take(), Some(8));
+        assert_eq!(rt; pair.end(), Ok(8));
+        assert_eq!(rt; pair.take(), None);
+        assert_eq!(rt; pair.in_service(), LineSet::new(0x208));
     }
 
     #[test]
     fn a_mask_outside_the_lines_changes_nothing(rt: HostRuntime) {
         let mut pair = Pair8259::new();
-        assert!(rt; matches!(pair.mask(LineSet::new(0xfffb)), Ok(())));
-        assert!(rt;
-            matches!(
-                pair.mask(LineSet::new(4)),
-                Err(ControllerFault::MaskOutside)
-            )
+        assert_eq!(rt; pair.mask(LineSet::new(0xfffb)), Ok(()));
+        assert_eq!(rt;
+            pair.mask(LineSet::new(4)),
+            Err(ControllerFault::MaskOutside)
         );
-        assert!(rt; pair.masked() == LineSet::new(0xfffb));
-        assert!(rt; pair.lines() == LineSet::new(0xfffb));
-        assert!(rt; ControllerFault::MaskOutside.number() == 2);
+        assert_eq!(rt; pair.masked(), LineSet::new(0xfffb));
+        assert_eq!(rt; pair.lines(), LineSet::new(0xfffb));
+        assert_eq!(rt; ControllerFault::MaskOutside.number(), 2);
     }
 
     #[test]
@@ -76,10 +74,10 @@ mod tests {
             .with(64)
             .without(200)
             .lines();
-        assert!(rt; lines.rest.count() == 3);
-        assert!(rt; lines.next() == Some(0));
-        assert!(rt; lines.next() == Some(17));
-        assert!(rt; lines.next() == Some(63));
-        assert!(rt; lines.next() == None);
+        assert_eq!(rt; lines.rest.count(), 3);
+        assert_eq!(rt; lines.next(), Some(0));
+        assert_eq!(rt; lines.next(), Some(17));
+        assert_eq!(rt; lines.next(), Some(63));
+        assert_eq!(rt; lines.next(), None);
     }
 }

@@ -1,3 +1,4 @@
 pub mod Bytes
 pub mod Search
 pub mod Places
+pub mod Bitmaps

@@ -6,7 +6,7 @@ ghost use Rattle.pending_log.specs.Bytes.{flat, Upper, UpperOf, Block, upper_wri
 use lines::{LineSet, byte_with, byte_without};
 
 // Byte i has the lines from 8 i on. Bit i of the upper byte is set exactly when byte i is not zero.
-#[derive(Clone, Copy)]
+#[derive(Clone, Copy, Debug, PartialEq, Eq)]
 pub struct Bitmap {
     bytes: [u8; 8],
     upper: u8,
@@ -25,15 +25,9 @@ fn upper_written(upper: u8, i: u8, byte: u8) -> u8
     }
 }
 
-// The lowest line of the set that is not in the other.
-fn lowest_outside(lines: LineSet, other: LineSet) -> Option<u8>
-    ensures { Finds (minus lines.bits other.bits) result }
-{
-    lines.minus(other).lowest()
-}
-
 impl Bitmap {
     // The bitmap of no line.
+    #[tactic(auto, using(crate::proofs::Bytes::zeros, lines::proofs::Laws::has_none), unfolding(crate::specs::Bytes::flat))]
     pub fn empty() -> Self
         ensures { flat result.bytes ≡ 0 }
     {
@@ -51,6 +45,7 @@ impl Bitmap {
     }
 
     // The set of its lines.
+    #[tactic(auto, using(crate::proofs::Bytes::flat_sum))]
     pub fn lines(self) -> LineSet
         ensures { result.bits ≡ flat self.bytes }
     {
@@ -58,6 +53,7 @@ impl Bitmap {
     }
 
     // With byte i written.
+    #[tactic(auto, using(crate::proofs::Bitmaps::writes))]
     fn written(self, i: u8, byte: u8) -> Self
         requires { i < 8 }
         ensures { result.bytes ≡ slice_set self.bytes i byte }
@@ -71,6 +67,7 @@ impl Bitmap {
     }
 
     // With the line besides: for a number from 64 on, as it is.
+    #[tactic(auto, using(crate::proofs::Bitmaps::bits))]
     pub fn with(self, line: u8) -> Self
         ensures { flat result.bytes ≡ with_line 64 (flat self.bytes) line }
     {
@@ -83,6 +80,7 @@ impl Bitmap {
     }
 
     // Without the line: for a number from 64 on, as it is.
+    #[tactic(auto, using(crate::proofs::Bitmaps::bits))]
     pub fn without(self, line: u8) -> Self
         ensures { flat result.bytes ≡ minus (flat self.bytes) (only line) }
     {
@@ -95,6 +93,7 @@ impl Bitmap {
     }
 
     // The lines that are in byte i: from 8 on, none.
+    #[tactic(auto, using(crate::proofs::Bitmaps::blocks))]
     fn block(self, i: u8) -> LineSet
         ensures { Block (flat self.bytes) i result.bits }
     {
@@ -109,11 +108,8 @@ impl Bitmap {
     pub fn lowest_outside(self, other: LineSet) -> Option<u8>
         ensures { Finds (minus (flat self.bytes) other.bits) result }
     {
-        for i in LineSet::new(u64::from(self.upper)).lines() {
-            if let Some(line) = lowest_outside(self.block(i), other) {
-                return Some(line);
-            }
-        }
-        None
+        LineSet::from(self.upper)
+            .lines()
+            .find_map(|i| self.block(i).minus(other).lowest())
     }
 }

@@ -18,7 +18,8 @@ use lines::LineSet;
 pub type PendingLog = Bank<LogRegisters>;
 
 // The log of the pending lines, and beside it the masked lines and those in service.
-#[derive(Clone, Copy)]
+// VectoredRegisters has a struct of its own: one over any kind of pending set would need a trait for that set, with a law for each method.
+#[derive(Clone, Copy, Debug, PartialEq, Eq)]
 pub struct LogRegisters {
     pending: Bitmap,
     masked: LineSet,
@@ -29,10 +30,7 @@ pub struct LogRegisters {
 fn over_service(first: Option<u8>, serving: Option<u8>) -> Option<u8>
     ensures { result ≡ over_service first serving }
 {
-    match (first, serving) {
-        (Some(line), Some(served)) if served <= line => None,
-        (line, _) => line,
-    }
+    first.filter(|line| serving.is_none_or(|served| *line < served))
 }
 
 impl LogRegisters {
@@ -44,6 +42,7 @@ impl LogRegisters {
     }
 
     // With the line gone from pending into service.
+    #[tactic(auto, using(bank::proofs::AllLines::has_every, crate::proofs::Bitmaps::bits_past))]
     fn acknowledging(self, line: u8) -> Self
         ensures { registers_hold result ≡ acknowledged all_lines (registers_hold self) line }
     {
@@ -102,6 +101,7 @@ impl Registers for LogRegisters {
         self.in_service
     }
 
+    #[tactic(auto, using(crate::proofs::Places::picks_over))]
     fn deliverable(&self) -> Option<u8> {
         over_service(
             self.pending.lowest_outside(self.masked),
@@ -109,14 +109,17 @@ impl Registers for LogRegisters {
         )
     }
 
+    #[tactic(auto, using(crate::proofs::Places::picks_lowest))]
     fn serving(&self) -> Option<u8> {
         self.in_service.lowest()
     }
 
+    #[tactic(auto, using(bank::proofs::AllLines::has_every))]
     fn latch(&mut self, line: u8) {
         self.pending = self.pending.with(line);
     }
 
+    #[tactic(auto, using(lines::proofs::Words::all_word))]
     fn write_mask(&mut self, set: LineSet) {
         self.masked = set;
     }

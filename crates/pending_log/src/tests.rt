@@ -37,5 +37,5 @@ fn the_smaller_line_goes_first(rt: HostRuntime) {
     assert_eq!(rt; log.take(), None);
     let _ = log.mask(LineSet::EMPTY);
     assert_eq!(rt; log.take(), Some(9));
-    assert_eq!(rt; log.end().ok(), Some(9));
+    assert_eq!(rt; log.end(), Ok(9));
 }

@@ -1,5 +1,5 @@
 -- Lines that go from block to block.
-use Rattle.std.proofs.Common.{◌≡◌, ℕ, zero, suc, ◌-◌, ◌<◌, ◌≤◌, min, Bool, true, false, cond, List, [], ◌∷◌, ◌++◌, length, take, drop, is_ok, IfOk, Ok, Err, Result, sym, refl, ap, ◌∙◌, subst, inl, append_assoc, arith, length-take}
+use Rattle.std.proofs.Common.{◌≡◌, ℕ, zero, suc, ◌-◌, ◌<◌, ◌≤◌, min, Bool, true, false, cond, List, [], ◌∷◌, ◌++◌, length, take, is_ok, IfOk, Ok, Err, Result, sym, refl, ap, ◌∙◌, subst, inl, append_assoc, arith, length-take}
 use native.Mathlib.Nat.{sub-zero, min_comm, min-eq_left}
 use native.Mathlib.Decide.{dec_le}
 use Rattle.std.proofs.lemmas.List.{take_all, take-take, take-append-le}
@@ -9,7 +9,7 @@ use Rattle.trace_lines.specs.declared.commands.TextFault.TheVariants.{Form, Rang
 use Rattle.trace_lines.specs.Cut.{whole_lines, begun, last_line, FirstWholeLine, NoWholeLine}
 use Rattle.trace_lines.proofs.Cutting.{lines_are, cut_anywhere, unended_begun, unended_more, unended_first, begun_unended}
 use Rattle.listing.specs.declared.listed.Listed.{Listed}
-use Rattle.trace.specs.declared.fault.TraceFault.{TraceFault}
+use Rattle.listing.specs.declared.listed.TraceFault.{TraceFault}
 use Rattle.trace.specs.Lines.{Traced, PlaysSetup, PlaysCommand, Plays}
 use Rattle.playback.specs.Traces.{LineMakes, PlaysAll, PlaysLines}
 use Rattle.playback.specs.Blocks.{KeptOf, Feeds, Finishes, BlocksJoin, BlockIsText}
@@ -94,15 +94,15 @@ feeds_none on s u b xs u' n e p k =
     )
 
 -- a block that ends the line that has begun, and then others
-pub feeds_some : (on on₁ on₂ : Bool) (s s₁ s₂ : Traced) (u b line rest xs ys zs kept tail u' : List ℕ) (n : ℕ) → FirstWholeLine b line rest → kept ≡ take 81 (u ++ line)
-    → PlaysLines on s (kept ∷ []) xs on₁ s₁ ys → PlaysLines on₁ s₁ (whole_lines rest) ys on₂ s₂ zs → tail ≡ drop n rest → drop n rest ≡ begun rest → u' ≡ take 81 tail
+pub feeds_some : (on on₁ on₂ : Bool) (s s₁ s₂ : Traced) (u b line rest xs ys zs kept tail u' : List ℕ) → FirstWholeLine b line rest → kept ≡ take 81 (u ++ line)
+    → PlaysLines on s (kept ∷ []) xs on₁ s₁ ys → PlaysLines on₁ s₁ (whole_lines rest) ys on₂ s₂ zs → tail ≡ begun rest → u' ≡ take 81 tail
     → Feeds u on s b xs u' on₂ s₂ zs
-feeds_some on on₁ on₂ s s₁ s₂ u b line rest xs ys zs kept tail u' n c e a d f g h p k =
+feeds_some on on₁ on₂ s s₁ s₂ u b line rest xs ys zs kept tail u' c e a d f h p k =
     let (x, y) = unended_first p b line rest k.unended c in
     let l : kept ≡ take 81 (p ++ line) = e ∙ ap (λ z. take 81 (z ++ line)) k.first ∙ kept_more p line in (
       subst (λ z. PlaysLines on s z xs on₂ s₂ zs) (sym x)
           (plays_joined on on₁ on₂ s s₁ s₂ ((p ++ line) ∷ []) (whole_lines rest) xs ys zs (as_whole on on₁ s s₁ (p ++ line) xs ys (subst (λ z. PlaysLines on s (z ∷ []) xs on₁ s₁ ys) l a)) d),
-      subst (λ z. KeptOf z u') (sym y) (record { unended = begun_unended rest; first = h ∙ ap (take 81) (f ∙ g) }),
+      subst (λ z. KeptOf z u') (sym y) (record { unended = begun_unended rest; first = h ∙ ap (take 81) f }),
     )
 
 -- the end of the input

@@ -2,4 +2,3 @@ mod Joining
 mod Looping
 mod Playing
 mod Replaying
-mod Single

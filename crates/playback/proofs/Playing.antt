@@ -12,18 +12,16 @@ use Rattle.model.specs.declared.calls.Answer.TheVariants as answer
 use Rattle.model.specs.Machine.{MachineModel}
 use Rattle.model.specs.Run.{Entry, Run}
 use Rattle.model.proofs.Turns.{step_routes}
-use Rattle.machine.specs.Answering.{refusal}
 use Rattle.trace_lines.specs.declared.commands.Command.{Command}
 use Rattle.trace_lines.specs.declared.commands.Command.TheVariants.{Raise, MaskHardware, Mask, Pump, Next, Done, Stall, Unstall, SetLevel, RestoreLevel}
 use Rattle.listing.specs.declared.listed.Listed.{Listed}
-use Rattle.listing.specs.declared.listed.Listed.TheVariants.{Accepted, Answered, Restored, Refused}
+use Rattle.listing.specs.declared.listed.Listed.TheVariants.{Accepted, Answered, Restored}
 use Rattle.listing.specs.declared.listed.ShortBuffer.{ShortBuffer}
 use Rattle.listing.specs.Listing.{line}
-use Rattle.trace.specs.declared.fault.TraceFault.{TraceFault}
-use Rattle.trace.specs.declared.fault.TraceFault.TheVariants.{Text, Machine, Saved}
+use Rattle.listing.specs.declared.listed.TraceFault.{TraceFault}
+use Rattle.listing.specs.declared.listed.TraceFault.TheVariants.{Text, Machine, Saved}
 use Rattle.trace.specs.Calls.{Levels, Called, Saves, Restores}
 use Rattle.trace.specs.Lines.{Traced, Obeys, PlaysCommand, Plays, Steps}
-use Rattle.trace.specs.Listing.{listed}
 use Rattle.playback.specs.Traces.{one_call, CalledOnce, LevelSet, LevelRestored, Makes, LineMakes, PlaysAll, listing_of, PlaysLines}
 
 -- ---- runs
@@ -40,19 +38,17 @@ run_routes a b (d ∷ h) (m, t, r) = run_routes m b h r ∙ step_routes a m d.ca
 
 called : (m m' : MachineModel) (c : Call) (r : Result Listed TraceFault) → Called m c r m' → (h : List Entry) × CalledOnce c r h × Run m h m'
 called m m' c (Ok Accepted) s = absurd s
-called m m' c (Ok (Answered a)) s = (one_call c a, refl, (m', s, refl))
+called m m' c (Ok (Answered a)) s = (one_call c (Ok a), refl, (m', s, refl))
 called m m' c (Ok (Restored n)) s = absurd s
-called m m' c (Ok (Refused n p)) s = absurd s
 called m m' c (Err (Text e)) s = absurd s
-called m m' c (Err (Machine e)) s = (one_call c (refusal e), refl, (m', s, refl))
+called m m' c (Err (Machine e)) s = (one_call c (Err e), refl, (m', s, refl))
 called m m' c (Err (Saved e k)) s = absurd s
 
 module _ {L : Type 0} (named : ℕ → Option L) (codes : L → Option ℕ) (k : Kernel) (m m' : MachineModel) (s s' : Levels L) where
   saves : (c : ℕ) (r : Result Listed TraceFault) → Saves named codes k c m s r m' s' → (h : List Entry) × LevelSet k c r h × Run m h m'
   saves c (Ok Accepted) p = absurd p
-  saves c (Ok (Answered a)) p = (one_call (call.To k (stage_call.SetLevel c)) a, refl, (m', p.3, refl))
+  saves c (Ok (Answered a)) p = (one_call (call.To k (stage_call.SetLevel c)) (Ok a), refl, (m', p.3, refl))
   saves c (Ok (Restored n)) p = absurd p
-  saves c (Ok (Refused n q)) p = absurd p
   saves c (Err (Text e)) p = absurd p
   saves c (Err (Machine e)) p = ([], refl, p.2)
   saves c (Err (Saved e j)) p = ([], refl, p.4)
@@ -60,8 +56,7 @@ module _ {L : Type 0} (named : ℕ → Option L) (codes : L → Option ℕ) (k :
   restores : (r : Result Listed TraceFault) → Restores codes k m s r m' s' → (h : List Entry) × LevelRestored k r h × Run m h m'
   restores (Ok Accepted) p = absurd p
   restores (Ok (Answered a)) p = absurd p
-  restores (Ok (Restored c)) p = (one_call (call.To k (stage_call.SetLevel c)) (answer.WasAtLevel p.1), (p.1, refl), (m', p.4, refl))
-  restores (Ok (Refused n q)) p = absurd p
+  restores (Ok (Restored c)) p = (one_call (call.To k (stage_call.SetLevel c)) (Ok (answer.WasAtLevel p.1)), (p.1, refl), (m', p.4, refl))
   restores (Err (Text e)) p = absurd p
   restores (Err (Machine e)) p = ([], refl, p.4)
   restores (Err (Saved e j)) p = ([], refl, p.3)
@@ -93,7 +88,7 @@ line_makes true on' s s' l r p = command_makes s s' l r p.1
 pub plays_none : (on : Bool) (s : Traced) (xs : List ℕ) → PlaysLines on s [] xs on s xs
 plays_none on s xs = record { results = []; made = []; plays = (refl, refl, refl); lists = sym (append-nil xs) }
 
-pub plays_one : (on on₁ : Bool) (s s₁ : Traced) (xs ys l : List ℕ) (r : Result Listed TraceFault) → Plays on s l r on₁ s₁ → ys ≡ xs ++ line (listed r)
+pub plays_one : (on on₁ : Bool) (s s₁ : Traced) (xs ys l : List ℕ) (r : Result Listed TraceFault) → Plays on s l r on₁ s₁ → ys ≡ xs ++ line r
     → PlaysLines on s (l ∷ []) xs on₁ s₁ ys
 plays_one on on₁ s s₁ xs ys l r q e =
     let (g, w) = line_makes on on₁ s s₁ l r q in
@@ -101,7 +96,7 @@ plays_one on on₁ s s₁ xs ys l r q e =
       results = r ∷ [];
       made = g;
       plays = (on₁, s₁, g, [], q, w, (refl, refl, refl), sym (append-nil g));
-      lists = e ∙ ap (λ x. xs ++ x) (sym (append-nil (line (listed r))));
+      lists = e ∙ ap (λ x. xs ++ x) (sym (append-nil (line r)));
     }
 
 joined_lines : (on on₁ on₂ : Bool) (s s₁ s₂ : Traced) (ls ms : List (List ℕ)) (rs qs : List (Result Listed TraceFault)) (h g : List Entry)
@@ -115,7 +110,7 @@ joined_lines on on₁ on₂ s s₁ s₂ (k ∷ ls) ms (d ∷ rs) qs h g (o, x, h
 
 listing_joined : (rs qs : List (Result Listed TraceFault)) → listing_of (rs ++ qs) ≡ listing_of rs ++ listing_of qs
 listing_joined [] qs = refl
-listing_joined (d ∷ rs) qs = ap (λ x. line (listed d) ++ x) (listing_joined rs qs) ∙ sym (append_assoc (line (listed d)) (listing_of rs) (listing_of qs))
+listing_joined (d ∷ rs) qs = ap (λ x. line d ++ x) (listing_joined rs qs) ∙ sym (append_assoc (line d) (listing_of rs) (listing_of qs))
 
 pub plays_joined : (on on₁ on₂ : Bool) (s s₁ s₂ : Traced) (ls ms : List (List ℕ)) (xs ys zs : List ℕ)
     → PlaysLines on s ls xs on₁ s₁ ys → PlaysLines on₁ s₁ ms ys on₂ s₂ zs → PlaysLines on s (ls ++ ms) xs on₂ s₂ zs
@@ -133,8 +128,8 @@ plays_joined on on₁ on₂ s s₁ s₂ ls ms xs ys zs p q =
 
 -- the bytes that a step has written are the line's
 pub steps_lists : (on on' : Bool) (s s' : Traced) (l xs ys : List ℕ) (w : Result ℕ ShortBuffer) (n : ℕ) → w ≡ Ok n → Steps on s l xs w on' s' ys
-    → (n ≤ length ys) × ((r : Result Listed TraceFault) × Plays on s l r on' s' × (take n ys ≡ line (listed r)))
+    → (n ≤ length ys) × ((r : Result Listed TraceFault) × Plays on s l r on' s' × (take n ys ≡ line r))
 steps_lists on on' s s' l xs ys (Ok k) n e (h, (r, p, f, q)) =
     let z : k ≡ n = cc in
-    (omega (arith, ap length q, length-append (line (listed r)) (drop k xs)), (r, p, ap (take n) q ∙ take_at (line (listed r)) (drop k xs) n (sym f ∙ z)))
+    (omega (arith, ap length q, length-append (line r) (drop k xs)), (r, p, ap (take n) q ∙ take_at (line r) (drop k xs) n (sym f ∙ z)))
 steps_lists on on' s s' l xs ys (Err d) n e p = let z : ◌≡◌ {A = ℕ} 0 1 = cc in absurd (omega arith)

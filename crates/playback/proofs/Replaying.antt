@@ -2,8 +2,6 @@
 use Rattle.std.proofs.Common.{◌≡◌, ℕ, Bool, true, false, List, [], ◌∷◌, ◌++◌, replicate, Ok, Err, Result, sym, refl, ap, ◌∙◌, subst, subst₂, append_assoc, append-nil}
 use Rattle.std.proofs.lemmas.Bool.{both_ways}
 use Rattle.lines.specs.Sets.{Within}
-use Rattle.levels.specs.declared.Class.{Class}
-use Rattle.levels.specs.declared.BsdLevel.{BsdLevel}
 use Rattle.levels.specs.declared.BsdLevel.TheVariants.{None as lowest_level}
 use Rattle.bank.specs.Contents.{all_lines}
 use Rattle.pair8259.specs.Pair.{pair_lines}
@@ -18,14 +16,13 @@ use Rattle.trace_lines.specs.declared.commands.Setup.{Setup}
 use Rattle.trace_lines.specs.declared.commands.Setup.TheVariants.{Route, Start}
 use Rattle.trace_lines.specs.Cut.{lines_of}
 use Rattle.listing.specs.declared.listed.Listed.{Listed}
-use Rattle.listing.specs.declared.listed.Listed.TheVariants.{Accepted, Answered, Restored, Refused}
-use Rattle.trace.specs.declared.fault.TraceFault.{TraceFault}
-use Rattle.trace.specs.declared.fault.TraceFault.TheVariants.{Text, Machine, Saved}
-use Rattle.trace.specs.declared.session.Session.{Session}
-use Rattle.trace.specs.Calls.{Levels}
+use Rattle.listing.specs.declared.listed.Listed.TheVariants.{Accepted, Answered, Restored}
+use Rattle.listing.specs.declared.listed.TraceFault.{TraceFault}
+use Rattle.listing.specs.declared.listed.TraceFault.TheVariants.{Text, Machine, Saved}
 use Rattle.trace.specs.Lines.{Traced, with_routes, reroute, Reroutes, SetsUp, PlaysSetup, Plays}
 use Rattle.cabinet.specs.Fresh.{cabinet}
-use Rattle.playback.specs.States.{Hardware, HeadStage, RootStage, state, IsLaidOut, at_first}
+use Rattle.trace.specs.declared.saved.Saved.{Saved as SavedLevels}
+use Rattle.playback.specs.States.{CabinetSession, state, IsLaidOut, at_first}
 use Rattle.playback.specs.Traces.{LineMakes, PlaysAll, PlaysLines, started_from, Replays}
 use Rattle.playback.proofs.Playing.{run_joined, run_routes}
 
@@ -61,14 +58,13 @@ reroutes m n n' k x (Ok Accepted) f e p =
     )
 reroutes m n n' k x (Ok (Answered a)) f e p = absurd p
 reroutes m n n' k x (Ok (Restored c)) f e p = absurd p
-reroutes m n n' k x (Ok (Refused i q)) f e p = absurd p
 reroutes m n n' k x (Err (Text d)) f e p = absurd p
 reroutes m n n' k x (Err (Machine d)) f e p = (subst (λ y. Fit m y.routes) (sym p.1) f, subst (λ y. y ≡ with_routes m y.routes) (sym p.1) e)
 reroutes m n n' k x (Err (Saved d j)) f e p = absurd p
 
 sets_up : (m n n' : MachineModel) (c : Setup) (r : Result Listed TraceFault) (on : Bool) → Fit m n.routes → n ≡ with_routes m n.routes → SetsUp n c r on n'
     → Fit m n'.routes × (n' ≡ with_routes m n'.routes)
-sets_up m n n' (Route k a b c) r on f e p = reroutes m n n' k (record { head_handles = a; head_passes = b; root_handles = c }) r f e p.1
+sets_up m n n' (Route k x) r on f e p = reroutes m n n' k x r f e p.1
 sets_up m n n' Start r on f e p = (subst (λ y. Fit m y.routes) (sym p.2) f, subst (λ y. y ≡ with_routes m y.routes) (sym p.2) e)
 
 setup_line : (m n n' : MachineModel) (l : List ℕ) (r : Result Listed TraceFault) (on : Bool) → Fit m n.routes → n ≡ with_routes m n.routes → PlaysSetup n l r on n'
@@ -129,7 +125,7 @@ replays_from_first on on' s s' trace xs listing a b e f p =
     replays at_first trace listing on' s' f (none_within all_lines) (common_right pair_lines all_lines)
     (subst (λ z. PlaysLines false at_first (lines_of trace) z on' s' listing) e (subst₂ (λ o z. PlaysLines o z (lines_of trace) xs on' s' listing) a b p))
 
-pub is_first : (s : Session Hardware HeadStage RootStage) (a : Levels Class) (b : Levels BsdLevel) → IsLaidOut s → a.places ≡ replicate 16 (record { 0 = 0 }) → a.used ≡ 0
-    → b.places ≡ replicate 16 lowest_level → b.used ≡ 0 → state s a b ≡ at_first
-is_first s a b l p u q v =
+pub is_first : (s : CabinetSession) (w : SavedLevels) → IsLaidOut s → w.head.places.now ≡ replicate 16 (record { 0 = 0 }) → w.head.used ≡ 0
+    → w.root.places.now ≡ replicate 16 lowest_level → w.root.used ≡ 0 → state s w ≡ at_first
+is_first s w l p u q v =
     λ i. record { machine = l.machine i; at_head = record { places = p i; used = u i }; at_root = record { places = q i; used = v i } }

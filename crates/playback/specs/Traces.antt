@@ -4,55 +4,49 @@ use Rattle.model.specs.declared.calls.Kernel.{Kernel}
 use Rattle.model.specs.declared.calls.StageCall.TheVariants as stage_call
 use Rattle.model.specs.declared.calls.Call.{Call}
 use Rattle.model.specs.declared.calls.Call.TheVariants as call
-use Rattle.model.specs.declared.calls.Answer.{Answer}
 use Rattle.model.specs.declared.calls.Answer.TheVariants as answer
-use Rattle.model.specs.Machine.{MachineModel}
+use Rattle.model.specs.Machine.{MachineModel, Reply}
 use Rattle.model.specs.Run.{Entry, Run, Fresh, Routable}
 use Rattle.model.specs.Promises.{RunPromises}
-use Rattle.machine.specs.Answering.{refusal}
 use Rattle.trace_lines.specs.declared.commands.TextFault.{TextFault}
 use Rattle.trace_lines.specs.declared.commands.Command.{Command}
 use Rattle.trace_lines.specs.declared.commands.Command.TheVariants.{Raise, MaskHardware, Mask, Pump, Next, Done, Stall, Unstall, SetLevel, RestoreLevel}
 use Rattle.trace_lines.specs.Cut.{lines_of}
 use Rattle.trace_lines.specs.Grammar.{ReadsCommand}
 use Rattle.listing.specs.declared.listed.Listed.{Listed}
-use Rattle.listing.specs.declared.listed.Listed.TheVariants.{Accepted, Answered, Restored, Refused}
+use Rattle.listing.specs.declared.listed.Listed.TheVariants.{Accepted, Answered, Restored}
 use Rattle.listing.specs.Listing.{line}
-use Rattle.trace.specs.declared.fault.TraceFault.{TraceFault}
-use Rattle.trace.specs.declared.fault.TraceFault.TheVariants.{Text, Machine, Saved}
+use Rattle.listing.specs.declared.listed.TraceFault.{TraceFault}
+use Rattle.listing.specs.declared.listed.TraceFault.TheVariants.{Text, Machine, Saved}
 use Rattle.trace.specs.Lines.{Traced, with_routes, Plays}
-use Rattle.trace.specs.Listing.{listed}
 
 -- ---- the calls that lines make
 
 -- the call c, made and answered
-abbrev pub one_call : Call → Answer → List Entry
+abbrev pub one_call : Call → Reply → List Entry
 one_call c a = record { call = c; answer = a } ∷ []
 
--- what a command that is the call c made of it: its answer is listed, a refusal too
+-- what a command that is the call c made of it: its answer is listed, or its refusal
 abbrev pub CalledOnce : Call → Result Listed TraceFault → List Entry → Type 0
 CalledOnce c (Ok Accepted) h = ⊥
-CalledOnce c (Ok (Answered a)) h = h ≡ one_call c a
+CalledOnce c (Ok (Answered a)) h = h ≡ one_call c (Ok a)
 CalledOnce c (Ok (Restored n)) h = ⊥
-CalledOnce c (Ok (Refused n p)) h = ⊥
 CalledOnce c (Err (Text e)) h = ⊥
-CalledOnce c (Err (Machine e)) h = h ≡ one_call c (refusal e)
+CalledOnce c (Err (Machine e)) h = h ≡ one_call c (Err e)
 CalledOnce c (Err (Saved e k)) h = ⊥
 
 -- a level set by its code c: one that is refused, for the code or for the stack, makes no call
 abbrev pub LevelSet : Kernel → ℕ → Result Listed TraceFault → List Entry → Type 0
 LevelSet k c (Ok Accepted) h = ⊥
-LevelSet k c (Ok (Answered a)) h = h ≡ one_call (call.To k (stage_call.SetLevel c)) a
+LevelSet k c (Ok (Answered a)) h = h ≡ one_call (call.To k (stage_call.SetLevel c)) (Ok a)
 LevelSet k c (Ok (Restored n)) h = ⊥
-LevelSet k c (Ok (Refused n p)) h = ⊥
 LevelSet k c (Err e) h = h ≡ []
 
 -- the level saved last, whose code c is listed, is set; the level f that it takes the place of is not listed
 abbrev pub LevelRestored : Kernel → Result Listed TraceFault → List Entry → Type 0
 LevelRestored k (Ok Accepted) h = ⊥
 LevelRestored k (Ok (Answered a)) h = ⊥
-LevelRestored k (Ok (Restored c)) h = (f : ℕ) × (h ≡ one_call (call.To k (stage_call.SetLevel c)) (answer.WasAtLevel f))
-LevelRestored k (Ok (Refused n p)) h = ⊥
+LevelRestored k (Ok (Restored c)) h = (f : ℕ) × (h ≡ one_call (call.To k (stage_call.SetLevel c)) (Ok (answer.WasAtLevel f)))
 LevelRestored k (Err e) h = h ≡ []
 
 -- the calls that each command makes, by its result
@@ -87,7 +81,7 @@ PlaysAll on s (l ∷ ls) (r ∷ rs) h on' s' =
 -- the listing of the results, a line for each
 abbrev pub listing_of : List (Result Listed TraceFault) → List ℕ
 listing_of [] = []
-listing_of (r ∷ rs) = line (listed r) ++ listing_of rs
+listing_of (r ∷ rs) = line r ++ listing_of rs
 
 -- the lines are played, and their listing is put behind xs, which gives ys
 pub record PlaysLines (on : Bool) (s : Traced) (ls : List (List ℕ)) (xs : List ℕ) (on' : Bool) (s' : Traced) (ys : List ℕ) : Type 0 where

@@ -1,14 +1,13 @@
 // Blocks of a trace, one after another.
 ghost use Rattle.std.specs.Prelude.{◌≡◌, ℕ, ◌-◌, ◌≤◌, min, [], ◌++◌, length, take, IfOk, vec_len, OnOk};
-ghost use Rattle.trace.specs.Lines.{levels_in};
+ghost use Rattle.trace.specs.Calls.{SameStacks};
 ghost use Rattle.trace.specs.Sessions.{has_started};
 ghost use Rattle.playback.specs.States.{state, IsLaidOut};
 ghost use Rattle.playback.specs.Blocks.{Feeds, Finishes, BlocksJoin, BlockIsText};
 
-use crate::{Playback, PlayedLines, Stream};
-use level_stack::LevelStack;
-use levels::{BsdLevel, Class};
+use crate::{Playback, Stream};
 use std::alloc::{AllocError, Global};
+use trace::Saved;
 use trace_lines::next_whole_line;
 
 // How many of some bytes there is room for, beside those that are kept: 81 in all.
@@ -43,13 +42,12 @@ impl Stream {
     // Plays the lines that the block ends, and puts their listing behind what the listing has. What the block begins is kept.
     pub fn feed(
         self,
-        head: &mut LevelStack<'_, Class>,
-        root: &mut LevelStack<'_, BsdLevel>,
+        saved: &mut Saved<'_>,
         block: &[u8],
         listing: &mut Vec<u8>,
     ) -> Result<Stream, AllocError>
-        ensures lent { (head.new.places.ghost_name ≡ head.old.places.ghost_name) × (root.new.places.ghost_name ≡ root.old.places.ghost_name) }
-        ensures feeds { IfOk result (λ p. Feeds self.begun.items (has_started self.playback.session) (state self.playback.session (levels_in head.old.places.now head.old.used) (levels_in root.old.places.now root.old.used)) block.now listing.old.items p.begun.items (has_started p.playback.session) (state p.playback.session (levels_in head.new.places.now head.new.used) (levels_in root.new.places.now root.new.used)) listing.new.items) }
+        ensures lent { SameStacks saved.old saved.new }
+        ensures feeds { IfOk result (λ p. Feeds self.begun.items (has_started self.playback.session) (state self.playback.session saved.old) block.now listing.old.items p.begun.items (has_started p.playback.session) (state p.playback.session saved.new) listing.new.items) }
     {
         let Stream {
             playback,
@@ -60,25 +58,24 @@ impl Stream {
             return Ok(Stream { playback, begun });
         };
         keep(&mut begun, line)?;
-        let playback = playback.play_line(head, root, &begun, listing)?;
-        let PlayedLines { playback, played } = playback.play_lines(head, root, rest, listing)?;
+        let playback = playback.play_line(saved, &begun, listing)?;
+        let (playback, rest) = playback.play_lines(saved, rest, listing)?;
         begun.clear();
-        keep(&mut begun, &rest[played..])?;
+        keep(&mut begun, rest)?;
         Ok(Stream { playback, begun })
     }
 
     // The end of the input: plays a last line that no line feed ends, if there is one.
     pub fn finish(
         self,
-        head: &mut LevelStack<'_, Class>,
-        root: &mut LevelStack<'_, BsdLevel>,
+        saved: &mut Saved<'_>,
         listing: &mut Vec<u8>,
     ) -> Result<Playback, AllocError>
-        ensures lent { (head.new.places.ghost_name ≡ head.old.places.ghost_name) × (root.new.places.ghost_name ≡ root.old.places.ghost_name) }
-        ensures finishes { IfOk result (λ p. Finishes self.begun.items (has_started self.playback.session) (state self.playback.session (levels_in head.old.places.now head.old.used) (levels_in root.old.places.now root.old.used)) listing.old.items (has_started p.session) (state p.session (levels_in head.new.places.now head.new.used) (levels_in root.new.places.now root.new.used)) listing.new.items) }
+        ensures lent { SameStacks saved.old saved.new }
+        ensures finishes { IfOk result (λ p. Finishes self.begun.items (has_started self.playback.session) (state self.playback.session saved.old) listing.old.items (has_started p.session) (state p.session saved.new) listing.new.items) }
     {
         let Stream { playback, begun } = self;
-        playback.play_last(head, root, &begun, listing)
+        playback.play_last(saved, &begun, listing)
     }
 }
 

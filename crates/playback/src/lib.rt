@@ -9,7 +9,6 @@ mod stream;
 mod whole;
 
 pub use feed::a_trace_may_come_in_blocks;
-pub use play::PlayedLines;
 pub use playback::{Hardware, HeadStage, Playback, RootStage};
 pub use step::PlaybackStepped;
 pub use stream::Stream;

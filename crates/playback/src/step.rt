@@ -1,12 +1,11 @@
 // A machine laid out, and one line of a trace.
 ghost use Rattle.std.specs.Prelude.{◌≡◌};
-ghost use Rattle.trace.specs.Lines.{levels_in, Steps};
+ghost use Rattle.trace.specs.Calls.{SameStacks};
+ghost use Rattle.trace.specs.Lines.{Steps};
 ghost use Rattle.trace.specs.Sessions.{has_started};
 ghost use Rattle.playback.specs.States.{state, IsLaidOut};
 
 use crate::Playback;
-use level_stack::LevelStack;
-use levels::{BsdLevel, Class};
 use listing::ShortBuffer;
 use machine::Machine;
 use optimistic::Optimistic;
@@ -14,9 +13,9 @@ use pair8259::Pair8259;
 use pending_log::PendingLog;
 use spl::{HeadPolicy, RootPolicy};
 use stage::on;
-use trace::{Session, Stepped, step};
+use trace::{Saved, Session, Stepped, step};
 
-// The machine after a line, and how many bytes were listed.
+// The machine after a line, and how many bytes were listed: named parts, like a step's.
 #[derive(Drop)]
 pub struct PlaybackStepped {
     pub playback: Playback,
@@ -24,7 +23,7 @@ pub struct PlaybackStepped {
 }
 
 impl Playback {
-    // The machine laid out, with no route set.
+    // The machine laid out, with no route set: its parts are named here, as wherever a machine is laid out.
     pub fn new() -> Self
         ensures { IsLaidOut result.session }
     {
@@ -38,18 +37,12 @@ impl Playback {
     }
 
     // Plays the line and lists it at the start of the buffer; a buffer under 20 bytes is refused before all else, and nothing changes.
-    pub fn step(
-        self,
-        head: &mut LevelStack<'_, Class>,
-        root: &mut LevelStack<'_, BsdLevel>,
-        line: &[u8],
-        out: &mut [u8],
-    ) -> PlaybackStepped
-        ensures lent { (head.new.places.ghost_name ≡ head.old.places.ghost_name) × (root.new.places.ghost_name ≡ root.old.places.ghost_name) }
-        ensures steps { Steps (has_started self.session) (state self.session (levels_in head.old.places.now head.old.used) (levels_in root.old.places.now root.old.used)) line.now out.old result.written (has_started result.playback.session) (state result.playback.session (levels_in head.new.places.now head.new.used) (levels_in root.new.places.now root.new.used)) out.new }
+    pub fn step(self, saved: &mut Saved<'_>, line: &[u8], out: &mut [u8]) -> PlaybackStepped
+        ensures lent { SameStacks saved.old saved.new }
+        ensures steps { Steps (has_started self.session) (state self.session saved.old) line.now out.old result.written (has_started result.playback.session) (state result.playback.session saved.new) out.new }
     {
         let Playback { session } = self;
-        let Stepped { session, written } = step(session, head, root, line, out);
+        let Stepped { session, written } = step(session, saved, line, out);
         PlaybackStepped {
             playback: Playback { session },
             written,

@@ -1,47 +1,45 @@
 // A whole trace.
 ghost use Rattle.std.specs.Prelude.{◌≡◌, ℕ, IfOk};
 ghost use Rattle.trace_lines.specs.Cut.{lines_of, last_line};
-ghost use Rattle.trace.specs.Lines.{levels_in};
+ghost use Rattle.trace.specs.Calls.{SameStacks};
 ghost use Rattle.trace.specs.Sessions.{has_started};
 ghost use Rattle.playback.specs.States.{state, at_first};
 ghost use Rattle.playback.specs.Traces.{PlaysLines, Replays};
 
-use crate::{Playback, PlayedLines};
-use level_stack::LevelStack;
+use crate::Playback;
 use levels::{BsdLevel, Class};
 use std::alloc::{AllocError, Global};
+use trace::Saved;
 
 impl Playback {
     // Plays a last line, which no line feed ends, unless it is empty.
     pub fn play_last(
         self,
-        head: &mut LevelStack<'_, Class>,
-        root: &mut LevelStack<'_, BsdLevel>,
+        saved: &mut Saved<'_>,
         begun: &[u8],
         listing: &mut Vec<u8>,
     ) -> Result<Playback, AllocError>
-        ensures lent { (head.new.places.ghost_name ≡ head.old.places.ghost_name) × (root.new.places.ghost_name ≡ root.old.places.ghost_name) }
-        ensures plays { IfOk result (λ p. PlaysLines (has_started self.session) (state self.session (levels_in head.old.places.now head.old.used) (levels_in root.old.places.now root.old.used)) (last_line begun.now) listing.old.items (has_started p.session) (state p.session (levels_in head.new.places.now head.new.used) (levels_in root.new.places.now root.new.used)) listing.new.items) }
+        ensures lent { SameStacks saved.old saved.new }
+        ensures plays { IfOk result (λ p. PlaysLines (has_started self.session) (state self.session saved.old) (last_line begun.now) listing.old.items (has_started p.session) (state p.session saved.new) listing.new.items) }
     {
-        if begun.len() == 0 {
+        if begun.is_empty() {
             return Ok(self);
         }
-        self.play_line(head, root, begun, listing)
+        self.play_line(saved, begun, listing)
     }
 
     // Plays all lines of a text.
     pub fn play_text(
         self,
-        head: &mut LevelStack<'_, Class>,
-        root: &mut LevelStack<'_, BsdLevel>,
+        saved: &mut Saved<'_>,
         text: &[u8],
         listing: &mut Vec<u8>,
     ) -> Result<Playback, AllocError>
-        ensures lent { (head.new.places.ghost_name ≡ head.old.places.ghost_name) × (root.new.places.ghost_name ≡ root.old.places.ghost_name) }
-        ensures plays { IfOk result (λ p. PlaysLines (has_started self.session) (state self.session (levels_in head.old.places.now head.old.used) (levels_in root.old.places.now root.old.used)) (lines_of text.now) listing.old.items (has_started p.session) (state p.session (levels_in head.new.places.now head.new.used) (levels_in root.new.places.now root.new.used)) listing.new.items) }
+        ensures lent { SameStacks saved.old saved.new }
+        ensures plays { IfOk result (λ p. PlaysLines (has_started self.session) (state self.session saved.old) (lines_of text.now) listing.old.items (has_started p.session) (state p.session saved.new) listing.new.items) }
     {
-        let PlayedLines { playback, played } = self.play_lines(head, root, text, listing)?;
-        playback.play_last(head, root, &text[played..], listing)
+        let (playback, rest) = self.play_lines(saved, text, listing)?;
+        playback.play_last(saved, rest, listing)
     }
 }
 
@@ -51,9 +49,8 @@ pub fn replay(heap: Global, trace: &[u8]) -> Result<Vec<u8>, AllocError>
 {
     let mut head_places = [Class(0); 16];
     let mut root_places = [BsdLevel::None; 16];
-    let mut head = LevelStack::over(&mut head_places);
-    let mut root = LevelStack::over(&mut root_places);
+    let mut saved = Saved::over(&mut head_places, &mut root_places);
     let mut listing = Vec::new(heap);
-    let _left = Playback::new().play_text(&mut head, &mut root, trace, &mut listing)?;
+    let _left = Playback::new().play_text(&mut saved, trace, &mut listing)?;
     Ok(listing)
 }

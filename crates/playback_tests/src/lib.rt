@@ -3,11 +3,11 @@
 
 #[cfg(test)]
 mod tests {
-    use level_stack::LevelStack;
     use levels::{BsdLevel, Class};
     use playback::{Playback, Stream, replay};
     use std::alloc::{AllocError, Global};
     use std::test::Fail;
+    use trace::Saved;
 
     // Whether the trace lists as the text.
     fn lists(heap: Global, trace: &[u8], text: &[u8]) -> Result<bool, AllocError> {
@@ -120,28 +120,36 @@ mod tests {
     fn in_blocks(heap: Global, first: &[u8], second: &[u8]) -> Result<Vec<u8>, AllocError> {
         let mut head_places = [Class(0); 16];
         let mut root_places = [BsdLevel::None; 16];
-        let mut head = LevelStack::over(&mut head_places);
-        let mut root = LevelStack::over(&mut root_places);
+        let mut saved = Saved::over(&mut head_places, &mut root_places);
         let mut listing = Vec::new(heap);
-        let stream = Stream::new(heap).feed(&mut head, &mut root, first, &mut listing)?;
-        let stream = stream.feed(&mut head, &mut root, second, &mut listing)?;
-        let _left = stream.finish(&mut head, &mut root, &mut listing)?;
+        let stream = Stream::new(heap).feed(&mut saved, first, &mut listing)?;
+        let stream = stream.feed(&mut saved, second, &mut listing)?;
+        let _left = stream.finish(&mut saved, &mut listing)?;
         Ok(listing)
     }
 
     #[test]
     fn a_trace_is_cut_anywhere(rt: HostRuntime) -> Result<(), Fail> {
         let heap = rt.alloc();
-        assert!(rt;
-            in_blocks(heap, b"b\ni ", b"3\np 1")?.as_slice() == b"ok\nnew\n1 8\n".as_slice()
+        assert_eq!(rt;
+            in_blocks(heap, b"b\ni ", b"3\np 1")?.as_slice(),
+            b"ok\nnew\n1 8\n".as_slice()
         );
-        assert!(rt; in_blocks(heap, b"b", b"\ni 3\n")?.as_slice() == b"ok\nnew\n".as_slice());
-        assert!(rt; in_blocks(heap, b"b\n", b"i 3\n")?.as_slice() == b"ok\nnew\n".as_slice());
-        assert!(rt;
-            in_blocks(heap, &[b'b'; 81], &[b'b'; 100])?.as_slice() == b"! 8 t\n".as_slice()
+        assert_eq!(rt;
+            in_blocks(heap, b"b", b"\ni 3\n")?.as_slice(),
+            b"ok\nnew\n".as_slice()
         );
-        assert!(rt;
-            in_blocks(heap, &[b' '; 200], b"\nb\n")?.as_slice() == b"! 8 t\nok\n".as_slice()
+        assert_eq!(rt;
+            in_blocks(heap, b"b\n", b"i 3\n")?.as_slice(),
+            b"ok\nnew\n".as_slice()
+        );
+        assert_eq!(rt;
+            in_blocks(heap, &[b'b'; 81], &[b'b'; 100])?.as_slice(),
+            b"! 8 t\n".as_slice()
+        );
+        assert_eq!(rt;
+            in_blocks(heap, &[b' '; 200], b"\nb\n")?.as_slice(),
+            b"! 8 t\nok\n".as_slice()
         );
         Ok(())
     }
@@ -150,19 +158,17 @@ mod tests {
     fn a_short_buffer_changes_nothing(rt: HostRuntime) {
         let mut places = [Class(0); 1];
         let mut root_places = [BsdLevel::None; 1];
-        let mut head = LevelStack::over(&mut places);
-        let mut root = LevelStack::over(&mut root_places);
+        let mut saved = Saved::over(&mut places, &mut root_places);
         let mut short = [b'#'; 19];
-        let stepped = Playback::new().step(&mut head, &mut root, b"b", &mut short);
-        assert!(rt; stepped.written.is_err() && short[0] == b'#');
+        let stepped = Playback::new().step(&mut saved, b"b", &mut short);
+        assert!(rt; stepped.written.is_err());
+        assert_eq!(rt; short[0], b'#');
         let mut enough = [b'#'; 20];
-        let stepped = stepped
-            .playback
-            .step(&mut head, &mut root, b"b", &mut enough);
-        assert!(rt; matches!(stepped.written, Ok(3)) && &enough[0..4] == b"ok\n#".as_slice());
-        let stepped = stepped
-            .playback
-            .step(&mut head, &mut root, b"b", &mut enough);
-        assert!(rt; matches!(stepped.written, Ok(6)) && &enough[0..6] == b"! 8 t\n".as_slice());
+        let stepped = stepped.playback.step(&mut saved, b"b", &mut enough);
+        assert_eq!(rt; stepped.written, Ok(3));
+        assert_eq!(rt; &enough[0..4], b"ok\n#".as_slice());
+        let stepped = stepped.playback.step(&mut saved, b"b", &mut enough);
+        assert_eq!(rt; stepped.written, Ok(6));
+        assert_eq!(rt; &enough[0..6], b"! 8 t\n".as_slice());
     }
 }

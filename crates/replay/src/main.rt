@@ -2,11 +2,11 @@
 #![tactic(auto)]
 
 use anyhow::anyhow;
-use level_stack::LevelStack;
 use levels::{BsdLevel, Class};
 use playback::Stream;
 use std::env;
 use std::io::{Read, Write};
+use trace::Saved;
 
 const HELP: &str = "usage: ./replay [FILE...]
 
@@ -40,35 +40,34 @@ fn replay<R: Read>(rt: &HostRuntime, input: &mut R) -> anyhow::Result<()> {
     let heap = rt.alloc();
     let mut head_places = [Class(0); 16];
     let mut root_places = [BsdLevel::None; 16];
-    let mut head = LevelStack::over(&mut head_places);
-    let mut root = LevelStack::over(&mut root_places);
+    let mut saved = Saved::over(&mut head_places, &mut root_places);
     let mut stream = Stream::new(heap);
     let mut block = vec![in heap; 0u8; BLOCK]?;
     let mut listing = Vec::new(heap);
+    // as often as there is more; a bound, since a loop without one needs leave to run for ever
     for _ in 0..u64::MAX {
         let n = input.read(&mut block)?;
         if n == 0 {
             break;
         }
-        stream = stream.feed(&mut head, &mut root, &block[0..n], &mut listing)?;
+        stream = stream.feed(&mut saved, &block[0..n], &mut listing)?;
         rt.stdout().write_all(&listing)?;
         listing.clear();
     }
-    let _left = stream.finish(&mut head, &mut root, &mut listing)?;
+    let _left = stream.finish(&mut saved, &mut listing)?;
     rt.stdout().write_all(&listing)?;
     Ok(())
 }
 
 fn start(rt: &HostRuntime) -> anyhow::Result<()> {
-    for word in env::args(rt)?.skip(1) {
-        if word.as_str() == "--help" {
-            println!(rt; "{HELP}")?;
-            return Ok(());
+    match env::args(rt)?.nth(1) {
+        None => replay(rt, &mut rt.stdin()),
+        Some(word) if word.as_str() == "--help" => Ok(println!(rt; "{HELP}")?),
+        Some(word) => {
+            eprintln!(rt; "replay: '{word}' is not --help; the trace is read from standard input")?;
+            Err(anyhow!("bad argument"))
         }
-        eprintln!(rt; "replay: '{word}' is not --help; the trace is read from standard input")?;
-        return Err(anyhow!("bad argument"));
     }
-    replay(rt, &mut rt.stdin())
 }
 
 fn main(rt: HostRuntime) -> anyhow::Result<()> {

@@ -10,7 +10,7 @@ ghost use Rattle.routes.specs.Sets.{routes_of, with_flag};
 use lines::LineSet;
 
 // The route of one line.
-#[derive(Clone, Copy)]
+#[derive(Clone, Copy, Debug, PartialEq, Eq)]
 pub struct Route {
     pub head_handles: bool,
     pub head_passes: bool,
@@ -18,7 +18,7 @@ pub struct Route {
 }
 
 // The routes of all lines, as sets of them.
-#[derive(Clone, Copy)]
+#[derive(Clone, Copy, Debug, PartialEq, Eq)]
 pub struct Routes {
     pub head_handles: LineSet,
     pub head_passes: LineSet,

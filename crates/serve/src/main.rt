@@ -8,7 +8,8 @@ use optimistic::Optimistic;
 use pair8259::Pair8259;
 use pending_log::PendingLog;
 use service::{Report, serve};
-use std::env;
+use std::str::FromStr;
+use std::{env, fmt};
 use vectored::Vectored;
 
 const HELP: &str = "usage: serve [optimistic] [pair | vectored | log] [LINE...]
@@ -26,11 +27,29 @@ An argument that is no number from 0 to 255 is named on standard error and left 
 docs/RULES.md has the rules.";
 
 // The controllers that can be named.
-#[derive(Clone, Copy)]
+#[derive(Clone, Copy, Debug, Default, PartialEq, Eq)]
 enum Kind {
+    #[default]
     Pair,
     Vectored,
     Log,
+}
+
+// A word that names no controller.
+#[derive(Clone, Copy, Debug, PartialEq, Eq)]
+struct UnknownKind;
+
+impl FromStr for Kind {
+    type Err = UnknownKind;
+
+    fn from_str(name: &str) -> Result<Self, UnknownKind> {
+        match name {
+            "pair" => Ok(Kind::Pair),
+            "vectored" => Ok(Kind::Vectored),
+            "log" => Ok(Kind::Log),
+            _ => Err(UnknownKind),
+        }
+    }
 }
 
 // What the command line asks for.
@@ -41,109 +60,60 @@ struct Command {
     lines: Vec<u8>,
 }
 
-// How far the command line has been read: what may come next.
-#[derive(Clone, Copy)]
-enum Next {
-    Layer,
-    Controller,
-    Line,
-}
-
-// The controller of that name.
-fn named_kind(name: &str) -> Option<Kind> {
-    match name {
-        "pair" => Some(Kind::Pair),
-        "vectored" => Some(Kind::Vectored),
-        "log" => Some(Kind::Log),
-        _ => None,
-    }
-}
-
 // The number that the text writes in base ten, from 0 to 255.
 fn number(text: &str) -> Option<u8> {
     if text.starts_with('+') {
         return None;
     }
-    text.parse::<u8>().ok()
-}
-
-// What a word of the command line stands for, by what may come next.
-#[derive(Clone, Copy)]
-enum Word {
-    Optimistic,
-    Controller(Kind),
-    Line(u8),
-    Bad,
-}
-
-fn meaning(next: Next, word: &str) -> Word {
-    let layer = matches!(next, Next::Layer);
-    if layer && word == "optimistic" {
-        return Word::Optimistic;
-    }
-    if layer || matches!(next, Next::Controller) {
-        if let Some(kind) = named_kind(word) {
-            return Word::Controller(kind);
-        }
-    }
-    match number(word) {
-        Some(line) => Word::Line(line),
-        None => Word::Bad,
-    }
+    text.parse().ok()
 }
 
 // What the command line asks for: on the pair and with the lines 3 8 1 if it does not say.
 fn read_command(rt: &HostRuntime) -> anyhow::Result<Command> {
-    let mut command = Command {
-        optimistic: false,
-        kind: Kind::Pair,
-        lines: Vec::new(rt.alloc()),
-    };
-    let mut next = Next::Layer;
-    let mut named = false;
-    for word in env::args(rt)?.skip(1) {
-        match meaning(next, word.as_str()) {
-            Word::Optimistic => {
-                command.optimistic = true;
-                next = Next::Controller;
-                continue;
-            }
-            Word::Controller(kind) => {
-                command.kind = kind;
-                next = Next::Line;
-                continue;
-            }
-            Word::Line(line) => command.lines.push(line)?,
-            Word::Bad => eprintln!(rt; "serve: '{word}' is no line number (0 to 255): left out")?,
+    let mut words = env::args(rt)?.skip(1).peekable();
+    let optimistic = words
+        .next_if(|word| word.as_str() == "optimistic")
+        .is_some();
+    let kind = words
+        .next_if_map(|word| word.as_str().parse::<Kind>().map_err(|_| word))
+        .unwrap_or_default();
+    let mut lines = Vec::new(rt.alloc());
+    if words.peek().is_none() {
+        lines.extend_from_slice(&[3, 8, 1])?;
+    }
+    for word in words {
+        match number(word.as_str()) {
+            Some(line) => lines.push(line)?,
+            None => eprintln!(rt; "serve: '{word}' is no line number (0 to 255): left out")?,
         }
-        next = Next::Line;
-        named = true;
     }
-    if !named {
-        command.lines.extend_from_slice(&[3, 8, 1])?;
-    }
-    Ok(command)
+    Ok(Command {
+        optimistic,
+        kind,
+        lines,
+    })
 }
 
-fn print_answer(
-    rt: &HostRuntime,
-    line: u8,
-    answer: Result<Raised, ControllerFault>,
-) -> anyhow::Result<()> {
-    match answer {
-        Ok(Raised::New) => println!(rt; "raise {line}: new")?,
-        Ok(Raised::Merged) => println!(rt; "raise {line}: merged")?,
-        Err(fault) => {
-            let number = fault.number();
-            println!(rt; "raise {line}: refused, {number}")?;
+// The answer to a raise, made to be printed once.
+#[derive(Clone, Copy)]
+struct Answer(Result<Raised, ControllerFault>);
+
+impl fmt::Display for Answer {
+    fn fmt<W: fmt::Write>(&self, f: &mut fmt::Formatter<W>) -> fmt::Result {
+        match self.0 {
+            Ok(Raised::New) => f.write_str("new"),
+            Ok(Raised::Merged) => f.write_str("merged"),
+            Err(fault) => {
+                let number = fault.number();
+                write!(f, "refused, {number}")
+            }
         }
     }
-    Ok(())
 }
 
 fn print_report(rt: &HostRuntime, lines: &[u8], report: &Report) -> anyhow::Result<()> {
     for (line, answer) in lines.iter().zip(report.answers.iter()) {
-        print_answer(rt, *line, *answer)?;
+        println!(rt; "raise {line}: {}", Answer(*answer))?;
     }
     for line in report.served.iter() {
         println!(rt; "take: {line}")?;
@@ -154,19 +124,22 @@ fn print_report(rt: &HostRuntime, lines: &[u8], report: &Report) -> anyhow::Resu
 }
 
 fn print_sets<C: Controller>(rt: &HostRuntime, controller: &C) -> anyhow::Result<()> {
-    println!(rt; "pending {:x}", controller.pending().bits)?;
-    println!(rt; "masked {:x}", controller.masked().bits)?;
-    println!(rt; "blocked {:x}", controller.blocked().bits)?;
-    println!(rt; "in service {:x}", controller.in_service().bits)?;
+    println!(rt; "pending {:x}", controller.pending())?;
+    println!(rt; "masked {:x}", controller.masked())?;
+    println!(rt; "blocked {:x}", controller.blocked())?;
+    println!(rt; "in service {:x}", controller.in_service())?;
     Ok(())
 }
 
-fn run<C: Controller>(rt: &HostRuntime, controller: &mut C, lines: &[u8]) -> anyhow::Result<()>
-    requires { C.Controller.consistent controller.old }
-{
-    let report = serve(rt.alloc(), controller, lines)?;
+// Serves the lines on the controller and prints what it did.
+fn run<C: Controller + Drop>(
+    rt: &HostRuntime,
+    mut controller: C,
+    lines: &[u8],
+) -> anyhow::Result<()> {
+    let report = serve(rt.alloc(), &mut controller, lines)?;
     print_report(rt, lines, &report)?;
-    print_sets(rt, controller)
+    print_sets(rt, &controller)
 }
 
 // Runs on the controller, or on an optimistic layer on it.
@@ -175,24 +148,18 @@ fn run_on<C: Controller + Drop>(
     optimistic: bool,
     controller: C,
     lines: &[u8],
-) -> anyhow::Result<()>
-    requires { C.Controller.consistent controller }
-{
+) -> anyhow::Result<()> {
     if optimistic {
-        let mut layer = Optimistic::new(controller);
-        run(rt, &mut layer, lines)
+        run(rt, Optimistic::new(controller), lines)
     } else {
-        let mut bare = controller;
-        run(rt, &mut bare, lines)
+        run(rt, controller, lines)
     }
 }
 
 fn start(rt: &HostRuntime) -> anyhow::Result<()> {
-    for word in env::args(rt)?.skip(1) {
-        if word.as_str() == "--help" {
-            println!(rt; "{HELP}")?;
-            return Ok(());
-        }
+    if env::args(rt)?.skip(1).any(|word| word.as_str() == "--help") {
+        println!(rt; "{HELP}")?;
+        return Ok(());
     }
     let command = read_command(rt)?;
     match command.kind {

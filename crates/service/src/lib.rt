@@ -12,7 +12,7 @@ use std::alloc::{AllocError, Global};
 // What a burst of requests led to.
 #[derive(Drop)]
 pub struct Report {
-    // the answer to each request, in their order
+    // the answer to each request, in their order: a list beside the caller's, which is only lent
     pub answers: Vec<Result<Raised, ControllerFault>>,
     // the lines served, in the order in which they were taken
     pub served: Vec<u8>,
@@ -24,10 +24,8 @@ fn raise_each<C: Controller>(
     requests: &[u8],
     answers: &mut Vec<Result<Raised, ControllerFault>>,
 )
-    requires consistent { C.Controller.consistent controller.old }
     requires no_answer_yet { answers.old.items ≡ [] }
     requires room { length requests.now ≤ vec_capacity answers.old }
-    ensures keeps { C.Controller.consistent controller.new }
     ensures fixed { C.Controller.ranks controller.new ≡ C.Controller.ranks controller.old }
     ensures leaves { C.Controller.view controller.new ≡ raised_all (C.Controller.view controller.old) requests.now }
     ensures told { Answers (C.Controller.view controller.old) requests.now answers.new.items }
@@ -48,10 +46,8 @@ fn note(served: &mut Vec<u8>, line: u8)
 
 // Takes and ends line after line, until none is deliverable.
 fn serve_each<C: Controller>(controller: &mut C, served: &mut Vec<u8>)
-    requires consistent { C.Controller.consistent controller.old }
     requires none_served_yet { served.old.items ≡ [] }
     requires room { 64 ≤ vec_capacity served.old }
-    ensures keeps { C.Controller.consistent controller.new }
     ensures fixed { C.Controller.ranks controller.new ≡ C.Controller.ranks controller.old }
     ensures leaves { Serves (C.Controller.view controller.old) served.new.items (C.Controller.view controller.new) }
 {
@@ -68,8 +64,6 @@ pub fn serve<C: Controller>(
     controller: &mut C,
     requests: &[u8],
 ) -> Result<Report, AllocError>
-    requires { C.Controller.consistent controller.old }
-    ensures keeps { C.Controller.consistent controller.new }
     ensures fixed { C.Controller.ranks controller.new ≡ C.Controller.ranks controller.old }
     ensures led { MatchResult result (λ report. Reports (C.Controller.view controller.old) requests.now report.answers.items report.served.items (C.Controller.view controller.new)) (λ _. C.Controller.view controller.new ≡ C.Controller.view controller.old) }
 {

@@ -1,2 +1,2 @@
 pub mod Lows
-pub mod Table
+pub mod Refusing

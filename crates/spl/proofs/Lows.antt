@@ -10,9 +10,6 @@ use Rattle.spl.specs.Blocking.{Low}
 abbrev pub Lowering : ℕ → (ℕ → Bool) → ℕ → ℕ → Type 0
 Lowering s above rest low = (n : ℕ) → has low n ≡ (has s n && (has rest n || not (above n)))
 
-pub lowering_none : (s : ℕ) (above : ℕ → Bool) → Lowering s above s s
-lowering_none s above n = grind (arith, nat_tests)
-
 module _ (s : ℕ) (above : ℕ → Bool) (rest low k : ℕ) (i : Lowering s above rest low) (t : has rest k ≡ true) where
   pub lowering_out : above k ≡ true → Lowering s above (minus rest (only k)) (minus low (only k))
   lowering_out a n = elim (cases_eq n k) [

@@ -13,7 +13,7 @@ Low lines above low = (n : ℕ) → has low n ≡ (has lines n && not (above n))
 abbrev pub spl_view : View → ℕ → ℕ → View
 spl_view v own low = set_blocked (set_masked v own) (union v.blocked low)
 
--- the layer is consistent: the mask below is its own mask together with the lines whose level is not above the current level
+-- the mask below is its own mask together with the lines whose level is not above the current level
 pub record Blocking (v : View) (above : ℕ → Bool) (own low : ℕ) : Type 0 where
   pub mask : v.masked ≡ union own low
   pub own_in : Within own v.lines

@@ -1,5 +1,5 @@
 -- The root kernel's policy: BSD levels.
-use Rattle.std.specs.Prelude.{ℕ, zero, suc, Bool, true, cond, ◌&&◌, ◌||◌, List, [], ◌∷◌, Some, Option, ◌==◌, nat_le}
+use Rattle.std.specs.Prelude.{ℕ, zero, suc, Bool, cond, ◌&&◌, ◌||◌, Some, Option, ◌==◌, nat_le}
 use Rattle.std.specs.declared.option.Option.TheVariants as option
 use Rattle.levels.specs.declared.BsdLevel.{BsdLevel}
 use Rattle.levels.specs.declared.BsdLevel.TheVariants.{None, SoftClock, SoftNet, Bio, Net, Tty, Clock, High}
@@ -44,8 +44,3 @@ root_named (suc (suc (suc (suc (suc zero))))) = Some Tty
 root_named (suc (suc (suc (suc (suc (suc zero)))))) = Some Clock
 root_named (suc (suc (suc (suc (suc (suc (suc zero))))))) = Some High
 root_named (suc (suc (suc (suc (suc (suc (suc (suc n)))))))) = option.None
-
--- the test of a table of levels against the rule: each entry, counted from n, is the level of its line
-abbrev pub follows_rule : ℕ → List BsdLevel → Bool
-follows_rule n [] = true
-follows_rule n (l ∷ ls) = code l == code (root_level n) && follows_rule (suc n) ls

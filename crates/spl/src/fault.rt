@@ -1,8 +1,8 @@
 // Why a level is refused.
 
 // A refused call changes nothing.
-#[derive(Clone, Copy)]
+#[derive(Clone, Copy, Debug, PartialEq, Eq)]
 pub enum LevelFault {
     // a level, or a code, that the policy does not name
-    NoSuchLevel,
+    NoSuchLevel = 4,
 }

@@ -6,7 +6,7 @@ use crate::policy::Policy;
 use levels::Class;
 
 // Classes by the line's number: 16 lines to a class.
-#[derive(Clone, Copy)]
+#[derive(Clone, Copy, Debug, PartialEq, Eq)]
 pub struct HeadPolicy;
 
 impl Policy for HeadPolicy {
@@ -37,10 +37,10 @@ impl Policy for HeadPolicy {
     }
 
     fn code_of(&self, level: Class) -> Option<u8> {
-        if level.0 < 5 { Some(level.0) } else { None }
+        (level.0 < 5).then_some(level.0)
     }
 
     fn level_from(&self, code: u8) -> Option<Class> {
-        if code < 5 { Some(Class(code)) } else { None }
+        (code < 5).then_some(Class(code))
     }
 }

@@ -9,8 +9,6 @@ impl LevelFault {
     pub fn number(self) -> u8
         ensures { result ≡ level_fault_number self }
     {
-        match self {
-            LevelFault::NoSuchLevel => 4,
-        }
+        self as u8
     }
 }

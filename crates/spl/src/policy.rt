@@ -56,6 +56,7 @@ fn is_over<P: Policy>(policy: &P, line: u8, level: P::Kind) -> bool
 }
 
 // The lines of the set whose level is not above the level given.
+#[tactic(auto, using(crate::proofs::Lows::lowering_all))]
 pub(crate) fn not_above<P: Policy>(policy: &P, level: P::Kind, lines: LineSet) -> LineSet
     ensures { Low lines.bits (λ n. P.Kind.Level.above (P.Policy.levels policy.now n) level) result.bits }
 {

@@ -1,10 +1,9 @@
 -- The calls of the layers as the calls of a stage.
-use Rattle.std.proofs.Common.{◌≡◌, ℕ, Bool, true, false, Some, None, Ok, Err, Option, Result, sym, refl, ap, ◌∙◌, subst, ap₂}
-use Rattle.std.proofs.lemmas.Bool.{both_ways}
+use Rattle.std.proofs.Common.{◌≡◌, ℕ, Bool, false, Some, None, Ok, Err, Option, Result, sym, refl, ap, ◌∙◌, subst, ap₂}
 use Rattle.lines.specs.Sets.{union, common}
 use Rattle.controller.specs.declared.fault.ControllerFault.{ControllerFault}
 use Rattle.controller.specs.declared.fault.Raised.{Raised}
-use Rattle.controller.specs.View.{View, Sound, set_masked, set_blocked, raised, ended}
+use Rattle.controller.specs.View.{View, set_masked, set_blocked, raised, ended}
 use Rattle.controller.specs.Calls.{Raises, Masks, Takes, Ends}
 use Rattle.spl.specs.Blocking.{spl_view, MasksOwn}
 use Rattle.model.specs.Stage.{PolicyModel, StageModel, told, Through}
@@ -41,10 +40,3 @@ takes_through v v' own low p c b r q e h k = subst (λ z. Through Takes (staged 
       subst (λ x. Takes (set_blocked (set_masked v own) (union v.blocked x)) r (spl_view v' own low)) e h,
       ap (λ x. record { own = set_blocked (set_masked v' own) x; policy = p; level = c; stalled = false }) (takes_blocked v v' r k),
     )
-
-pub takes_stalled : (v : View) (own : ℕ) (p : PolicyModel) (c : ℕ) (b : Bool) (s' : StageModel) → Sound v → b ≡ true → s' ≡ staged v own p c b → Through Takes (staged v own p c b) None s'
-takes_stalled v own p c b s' o q e =
-    subst (λ z. Through Takes (staged v own p c b) None z) (sym e) (subst (λ z. Through Takes (staged v own p c z) None (staged v own p c z)) (sym q) at)
-  where
-    at : Through Takes (staged v own p c true) None (staged v own p c true)
-    at = (told (staged v own p c true), (λ n d. both_ways _ d.unblocked (o.pending_in n d.pends), refl), refl)

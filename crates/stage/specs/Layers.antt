@@ -41,14 +41,15 @@ policy_model p k x = coded_policy (p.levels x) k.above (p.least x) (p.codes x) (
 abbrev pub staged : View → ℕ → PolicyModel → ℕ → Bool → StageModel
 staged v own p c b = record { own = set_masked v own; policy = p; level = c; stalled = b }
 
--- the stall layer on the spl layer on a controller
-abbrev pub stage_model : {P C K L : Type 0} → policy.Ghosts P K → level.Ghosts K → controller.Ghosts C L → Stall (Spl P C K L) L → StageModel
-stage_model p k c s =
-    staged (c.view s.below.below) s.below.own.bits (policy_model p k s.below.policy) (code_number (p.codes s.below.policy s.below.level)) s.stalled
+module _ {P C K L : Type 0} {p : policy.Ghosts P K} {k : level.Ghosts K} {c : controller.Ghosts C L} {l : level.Ghosts L} where
+  -- the stall layer on the spl layer on a controller
+  abbrev pub stage_model : Stall (Spl P C K L p k c l) L → StageModel
+  stage_model s =
+      staged (c.view s.below.below) s.below.own.bits (policy_model p k s.below.policy) (code_number (p.codes s.below.policy s.below.level)) s.stalled
 
--- the same, of the layers by themselves
-abbrev pub stage_at : {P C K L : Type 0} → policy.Ghosts P K → level.Ghosts K → controller.Ghosts C L → Spl P C K L → Bool → StageModel
-stage_at p k c t b = stage_model p k c (record { below = t; stalled = b })
+  -- the same, of the layers by themselves
+  abbrev pub stage_at : Spl P C K L p k c l → Bool → StageModel
+  stage_at t b = stage_model (record { below = t; stalled = b })
 
 -- the level of the stage becomes the one that the code names; a code that names none is refused, and nothing changes
 abbrev pub SetsByCode : {E : Type 0} → ℕ → StageModel → Result (Unit {0}) E → StageModel → Type 0

@@ -8,9 +8,7 @@ use lines::LineSet;
 
 // Takes the first deliverable line and ends it at once.
 pub fn pass<C: Controller>(controller: &mut C) -> Option<u8>
-    requires { C.Controller.consistent controller.old }
-    ensures keeps { C.Controller.consistent controller.new }
-    ensures passes { Passed (C.Controller.view controller.old) result (C.Controller.view controller.new) }
+    ensures { Passed (C.Controller.view controller.old) result (C.Controller.view controller.new) }
 {
     let line = controller.take()?;
     let _ = controller.end();
@@ -18,10 +16,9 @@ pub fn pass<C: Controller>(controller: &mut C) -> Option<u8>
 }
 
 // Raises the line at the stage if it is routed there.
+#[tactic(auto, using(crate::proofs::Arriving::stays_away))]
 pub fn deliver<S: Stage>(stage: &mut S, routed: LineSet, line: u8)
-    requires { S.Stage.consistent stage.old }
-    ensures keeps { S.Stage.consistent stage.new }
-    ensures reaches { S.Stage.model stage.new ≡ reached (S.Stage.model stage.old) routed.bits line }
+    ensures { S.Stage.model stage.new ≡ reached (S.Stage.model stage.old) routed.bits line }
 {
     if routed.contains(line) {
         let _ = stage.raise(line);

@@ -15,55 +15,38 @@ pub trait Stage {
     // what it is to the machine
     ghost model: { Self → StageModel };
 
-    // that it is in order; it is made so, and each call keeps it so
-    ghost consistent: { Self → Type 0 };
-
     // Its lines, or one of its four sets.
     fn ask(&self, question: Question) -> LineSet
-        requires { consistent self.now }
         ensures { result.bits ≡ tells (told (model self.now)) question };
 
     // The line is pending from now on; NoSuchLine if the stage lacks it.
     fn raise(&mut self, line: u8) -> Result<Raised, ControllerFault>
-        requires { consistent self.old }
-        ensures keeps { consistent self.new }
-        ensures leaves { Through (λ v. Raises v line) (model self.old) result (model self.new) };
+        ensures { Through (λ v. Raises v line) (model self.old) result (model self.new) };
 
     // The masked lines are from now on those of the set; MaskOutside if it has a line that the stage lacks.
     fn mask(&mut self, set: LineSet) -> Result<(), ControllerFault>
-        requires { consistent self.old }
-        ensures keeps { consistent self.new }
-        ensures leaves { Through (λ v. Masks v set.bits) (model self.old) result (model self.new) };
+        ensures { Through (λ v. Masks v set.bits) (model self.old) result (model self.new) };
 
     // The first deliverable line goes into service; none if no line is deliverable.
     fn take(&mut self) -> Option<u8>
-        requires { consistent self.old }
-        ensures keeps { consistent self.new }
-        ensures leaves { Through Takes (model self.old) result (model self.new) };
+        ensures { Through Takes (model self.old) result (model self.new) };
 
     // The first line in service leaves service; NothingInService if there is none.
     fn end(&mut self) -> Result<u8, ControllerFault>
-        requires { consistent self.old }
-        ensures keeps { consistent self.new }
-        ensures leaves { Through Ends (model self.old) result (model self.new) };
+        ensures { Through Ends (model self.old) result (model self.new) };
 
-    // Sets the stall bit, and answers the former one.
+    // Sets the stall bit, and answers the former one: stall and unstall are two calls here too, as at the stall layer.
     fn stall(&mut self) -> bool
-        requires { consistent self.old }
-        ensures keeps { consistent self.new }
-        ensures leaves { SetsStalled true (model self.old) result (model self.new) };
+        ensures { SetsStalled true (model self.old) result (model self.new) };
 
     // Clears the stall bit, and answers the former one.
     fn unstall(&mut self) -> bool
-        requires { consistent self.old }
-        ensures keeps { consistent self.new }
-        ensures leaves { SetsStalled false (model self.old) result (model self.new) };
+        ensures { SetsStalled false (model self.old) result (model self.new) };
 
     // Sets the level that the code names, and answers the former one's code; NoSuchLevel if it names none.
     fn set_level(&mut self, code: u8) -> Result<u8, LevelFault>
-        requires { consistent self.old }
-        ensures keeps { consistent self.new }
-        ensures leaves { SetsStageLevel code (model self.old) result (model self.new) };
+        ensures { SetsStageLevel code (model self.old) result (model self.new) };
 
-    ghost sound: { (s : Self) → consistent s → Sound (model s).own };
+    // every value is in order, as it is made and after each call
+    ghost sound: { (s : Self) → Sound (model s).own };
 }

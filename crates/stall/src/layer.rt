@@ -7,6 +7,7 @@ ghost use Rattle.std.proofs.Common.{rules};
 
 use controller::{Controller, ControllerFault, Raised};
 use lines::LineSet;
+use std::mem;
 
 #[derive(Drop)]
 pub struct Stall<C: Controller> {
@@ -18,8 +19,6 @@ pub struct Stall<C: Controller> {
 impl<C: Controller> Stall<C> {
     // The layer on a controller, with the bit clear: it tells what the controller tells.
     pub fn new(below: C) -> Self
-        requires { C.Controller.consistent below }
-        ensures keeps { C.Controller.consistent result.below }
         ensures told { layer_view C.Controller result ≡ C.Controller.view below }
         ensures below { result.below ≡ below }
         ensures bit { result.stalled ≡ false }
@@ -30,87 +29,22 @@ impl<C: Controller> Stall<C> {
         }
     }
 
-    // Sets the bit, and answers the former one.
+    // Sets the bit, and answers the former one. Stall and unstall are calls with names of their own, so no flag stands for them.
     pub fn stall(&mut self) -> bool
-        requires { C.Controller.consistent self.old.below }
-        ensures keeps { C.Controller.consistent self.new.below }
         ensures former { result ≡ self.old.stalled }
         ensures bit { self.new.stalled ≡ true }
         ensures below { self.new.below ≡ self.old.below }
     {
-        self.set(true)
+        mem::replace(&mut self.stalled, true)
     }
 
     // Clears the bit, and answers the former one.
     pub fn unstall(&mut self) -> bool
-        requires { C.Controller.consistent self.old.below }
-        ensures keeps { C.Controller.consistent self.new.below }
         ensures former { result ≡ self.old.stalled }
         ensures bit { self.new.stalled ≡ false }
         ensures below { self.new.below ≡ self.old.below }
     {
-        self.set(false)
-    }
-
-    // Sets or clears the bit, and answers the former one.
-    fn set(&mut self, stalled: bool) -> bool
-        requires { C.Controller.consistent self.old.below }
-        ensures keeps { C.Controller.consistent self.new.below }
-        ensures former { result ≡ self.old.stalled }
-        ensures bit { self.new.stalled ≡ stalled }
-        ensures below { self.new.below ≡ self.old.below }
-    {
-        let former = self.stalled;
-        self.stalled = stalled;
-        former
-    }
-
-    // Raises below, whatever the bit.
-    pub fn raise(&mut self, line: u8) -> Result<Raised, ControllerFault>
-        requires { C.Controller.consistent self.old.below }
-        ensures keeps { C.Controller.consistent self.new.below }
-        ensures fixed { C.Controller.ranks self.new.below ≡ C.Controller.ranks self.old.below }
-        ensures bit { self.new.stalled ≡ self.old.stalled }
-        ensures under { Raises (C.Controller.view self.old.below) line result (C.Controller.view self.new.below) }
-    {
-        self.below.raise(line)
-    }
-
-    // Masks below, whatever the bit.
-    pub fn mask(&mut self, set: LineSet) -> Result<(), ControllerFault>
-        requires { C.Controller.consistent self.old.below }
-        ensures keeps { C.Controller.consistent self.new.below }
-        ensures fixed { C.Controller.ranks self.new.below ≡ C.Controller.ranks self.old.below }
-        ensures bit { self.new.stalled ≡ self.old.stalled }
-        ensures under { Masks (C.Controller.view self.old.below) set.bits result (C.Controller.view self.new.below) }
-    {
-        self.below.mask(set)
-    }
-
-    // Takes below while the bit is clear; while it is set the answer is none and the controller below is left untouched.
-    pub fn take(&mut self) -> Option<u8>
-        requires { C.Controller.consistent self.old.below }
-        ensures keeps { C.Controller.consistent self.new.below }
-        ensures fixed { C.Controller.ranks self.new.below ≡ C.Controller.ranks self.old.below }
-        ensures bit { self.new.stalled ≡ self.old.stalled }
-        ensures gated { Gated self.old.stalled result (self.new.below ≡ self.old.below) (Takes (C.Controller.view self.old.below) result (C.Controller.view self.new.below)) }
-    {
-        if self.stalled {
-            None
-        } else {
-            self.below.take()
-        }
-    }
-
-    // Ends below, whatever the bit.
-    pub fn end(&mut self) -> Result<u8, ControllerFault>
-        requires { C.Controller.consistent self.old.below }
-        ensures keeps { C.Controller.consistent self.new.below }
-        ensures fixed { C.Controller.ranks self.new.below ≡ C.Controller.ranks self.old.below }
-        ensures bit { self.new.stalled ≡ self.old.stalled }
-        ensures under { Ends (C.Controller.view self.old.below) result (C.Controller.view self.new.below) }
-    {
-        self.below.end()
+        mem::replace(&mut self.stalled, false)
     }
 }
 
@@ -119,13 +53,11 @@ impl<C: Controller> Controller for Stall<C> {
 
     ghost view = { λ s. layer_view C.Controller s };
 
-    ghost consistent = { λ s. C.Controller.consistent s.below };
-
     ghost ranks = { λ s. C.Controller.ranks s.below };
 
     ghost ordered = { Prim.search rules };
 
-    ghost sound = { λ s h. stalled_sound _ s.stalled (C.Controller.sound s.below h) };
+    ghost sound = { λ s. stalled_sound _ s.stalled (C.Controller.sound s.below) };
 
     fn lines(&self) -> LineSet {
         self.below.lines()
@@ -155,19 +87,47 @@ impl<C: Controller> Controller for Stall<C> {
         self.below.in_service()
     }
 
-    fn raise(&mut self, line: u8) -> Result<Raised, ControllerFault> {
-        Stall::raise(self, line)
+    // Raises below, whatever the bit.
+    fn raise(&mut self, line: u8) -> Result<Raised, ControllerFault>
+        ensures fixed { C.Controller.ranks self.new.below ≡ C.Controller.ranks self.old.below }
+        ensures leaves { Raises (layer_view C.Controller self.old) line result (layer_view C.Controller self.new) }
+        ensures bit { self.new.stalled ≡ self.old.stalled }
+        ensures under { Raises (C.Controller.view self.old.below) line result (C.Controller.view self.new.below) }
+    {
+        self.below.raise(line)
     }
 
-    fn mask(&mut self, set: LineSet) -> Result<(), ControllerFault> {
-        Stall::mask(self, set)
+    // Masks below, whatever the bit.
+    fn mask(&mut self, set: LineSet) -> Result<(), ControllerFault>
+        ensures fixed { C.Controller.ranks self.new.below ≡ C.Controller.ranks self.old.below }
+        ensures leaves { Masks (layer_view C.Controller self.old) set.bits result (layer_view C.Controller self.new) }
+        ensures bit { self.new.stalled ≡ self.old.stalled }
+        ensures under { Masks (C.Controller.view self.old.below) set.bits result (C.Controller.view self.new.below) }
+    {
+        self.below.mask(set)
     }
 
-    fn take(&mut self) -> Option<u8> {
-        Stall::take(self)
+    // Takes below while the bit is clear; while it is set the answer is none and the controller below is left untouched.
+    fn take(&mut self) -> Option<u8>
+        ensures fixed { C.Controller.ranks self.new.below ≡ C.Controller.ranks self.old.below }
+        ensures leaves { Takes (layer_view C.Controller self.old) result (layer_view C.Controller self.new) }
+        ensures bit { self.new.stalled ≡ self.old.stalled }
+        ensures gated { Gated self.old.stalled result (self.new.below ≡ self.old.below) (Takes (C.Controller.view self.old.below) result (C.Controller.view self.new.below)) }
+    {
+        if self.stalled {
+            None
+        } else {
+            self.below.take()
+        }
     }
 
-    fn end(&mut self) -> Result<u8, ControllerFault> {
-        Stall::end(self)
+    // Ends below, whatever the bit.
+    fn end(&mut self) -> Result<u8, ControllerFault>
+        ensures fixed { C.Controller.ranks self.new.below ≡ C.Controller.ranks self.old.below }
+        ensures leaves { Ends (layer_view C.Controller self.old) result (layer_view C.Controller self.new) }
+        ensures bit { self.new.stalled ≡ self.old.stalled }
+        ensures under { Ends (C.Controller.view self.old.below) result (C.Controller.view self.new.below) }
+    {
+        self.below.end()
     }
 }

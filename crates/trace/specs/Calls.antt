@@ -10,29 +10,37 @@ use Rattle.model.specs.declared.calls.Answer.TheVariants as answer
 use Rattle.model.specs.Machine.{MachineModel, Step}
 use Rattle.model.specs.Stage.{StageModel}
 use Rattle.stage.specs.Layers.{names_one}
-use Rattle.machine_faults.specs.declared.fault.Fault.TheVariants.{Level}
-use Rattle.machine_faults.specs.declared.fault.MachineFault.{MachineFault}
-use Rattle.machine.specs.Answering.{refusal}
+use Rattle.model.specs.declared.fault.Fault.TheVariants.{Level}
+use Rattle.model.specs.declared.fault.MachineFault.{MachineFault}
 use Rattle.level_stack.specs.declared.fault.StackFault.TheVariants.{Full, Empty}
-use Rattle.level_stack.specs.Stacks.{Last}
+use Rattle.level_stack.specs.Stacks.{Last, SamePlaces}
+use Rattle.level_stack.specs.declared.stack.LevelStack.{LevelStack}
+use Rattle.trace.specs.declared.saved.Saved.{Saved as SavedLevels}
 use Rattle.listing.specs.declared.listed.Listed.{Listed}
-use Rattle.listing.specs.declared.listed.Listed.TheVariants.{Accepted, Answered, Restored, Refused}
-use Rattle.trace.specs.declared.fault.TraceFault.{TraceFault}
-use Rattle.trace.specs.declared.fault.TraceFault.TheVariants.{Text, Machine, Saved}
+use Rattle.listing.specs.declared.listed.Listed.TheVariants.{Accepted, Answered, Restored}
+use Rattle.listing.specs.declared.listed.TraceFault.{TraceFault}
+use Rattle.listing.specs.declared.listed.TraceFault.TheVariants.{Text, Machine, Saved}
 
 -- the saved levels of a kernel: the places of its stack, and how many of them are used
 pub record Levels (L : Type 0) : Type 0 where
   pub places : List L
   pub used : ℕ
 
--- a call of the machine: its answer is listed, a refusal too
+-- the levels that a stack over lent places keeps
+abbrev pub levels_in : {L : Type 0} → LevelStack L → Levels L
+levels_in s = record { places = s.places.now; used = s.used }
+
+-- the stacks of both kernels stand over the places that they stood over
+abbrev pub SameStacks : SavedLevels → SavedLevels → Type 0
+SameStacks s t = SamePlaces s.head t.head × SamePlaces s.root t.root
+
+-- a call of the machine: its answer is listed, or its refusal
 abbrev pub Called : MachineModel → Call → Result Listed TraceFault → MachineModel → Type 0
 Called m c (Ok Accepted) m' = ⊥
-Called m c (Ok (Answered a)) m' = Step m c a m'
+Called m c (Ok (Answered a)) m' = Step m c (Ok a) m'
 Called m c (Ok (Restored n)) m' = ⊥
-Called m c (Ok (Refused n p)) m' = ⊥
 Called m c (Err (Text e)) m' = ⊥
-Called m c (Err (Machine e)) m' = Step m c (refusal e) m'
+Called m c (Err (Machine e)) m' = Step m c (Err e) m'
 Called m c (Err (Saved e k)) m' = ⊥
 
 -- the level is one that the policy does not name
@@ -49,10 +57,9 @@ pub record Linked {L : Type 0} (named : ℕ → Option L) (codes : L → Option 
 abbrev pub Saves : {L : Type 0} → (ℕ → Option L) → (L → Option ℕ) → Kernel → ℕ → MachineModel → Levels L → Result Listed TraceFault → MachineModel → Levels L → Type 0
 Saves named codes k c m s (Ok Accepted) m' s' = ⊥
 Saves named codes k c m s (Ok (Answered a)) m' s' =
-    (f : ℕ) × (l : _) × (a ≡ answer.WasAtLevel f) × Step m (to k (set_level c)) a m' × (codes l ≡ Some f) × (s.used < length s.places)
+    (f : ℕ) × (l : _) × (a ≡ answer.WasAtLevel f) × Step m (to k (set_level c)) (Ok a) m' × (codes l ≡ Some f) × (s.used < length s.places)
     × (s' ≡ record { places = slice_set s.places s.used l; used = s.used + 1 })
 Saves named codes k c m s (Ok (Restored n)) m' s' = ⊥
-Saves named codes k c m s (Ok (Refused n p)) m' s' = ⊥
 Saves named codes k c m s (Err (Text e)) m' s' = ⊥
 Saves named codes k c m s (Err (Machine e)) m' s' = (e ≡ unknown_level k) × (named c ≡ None) × (m' ≡ m) × (s' ≡ s)
 Saves named codes k c m s (Err (Saved e j)) m' s' =
@@ -65,9 +72,9 @@ Settable named codes k l (Err e) = (codes l ≡ None) × (e ≡ Machine (unknown
 
 -- setting the level that the code c names answers that code
 abbrev pub SetsAgain : Kernel → ℕ → MachineModel → Result ℕ TraceFault → MachineModel → Type 0
-SetsAgain k c m (Ok n) m' = (n ≡ c) × ((f : ℕ) × Step m (to k (set_level c)) (answer.WasAtLevel f) m')
+SetsAgain k c m (Ok n) m' = (n ≡ c) × ((f : ℕ) × Step m (to k (set_level c)) (Ok (answer.WasAtLevel f)) m')
 SetsAgain k c m (Err (Text e)) m' = ⊥
-SetsAgain k c m (Err (Machine e)) m' = Step m (to k (set_level c)) (refusal e) m'
+SetsAgain k c m (Err (Machine e)) m' = Step m (to k (set_level c)) (Err e) m'
 SetsAgain k c m (Err (Saved e j)) m' = ⊥
 
 -- the stack once its last used place is free
@@ -79,9 +86,8 @@ abbrev pub Restores : {L : Type 0} → (L → Option ℕ) → Kernel → Machine
 Restores codes k m s (Ok Accepted) m' s' = ⊥
 Restores codes k m s (Ok (Answered a)) m' s' = ⊥
 Restores codes k m s (Ok (Restored c)) m' s' =
-    (l : _) × (f : ℕ) × Last s.places s.used (Some l) × (codes l ≡ Some c) × Step m (to k (set_level c)) (answer.WasAtLevel f) m'
+    (l : _) × (f : ℕ) × Last s.places s.used (Some l) × (codes l ≡ Some c) × Step m (to k (set_level c)) (Ok (answer.WasAtLevel f)) m'
     × (s' ≡ without_last s)
-Restores codes k m s (Ok (Refused n p)) m' s' = ⊥
 Restores codes k m s (Err (Text e)) m' s' = ⊥
 Restores codes k m s (Err (Machine e)) m' s' =
     (l : _) × Last s.places s.used (Some l) × (codes l ≡ None) × (e ≡ unknown_level k) × (m' ≡ m) × (s' ≡ s)

@@ -1,5 +1,4 @@
 pub mod Calls
 pub mod Lines
-pub mod Listing
 pub mod Sessions
 pub mod Stages

@@ -19,13 +19,13 @@ use Rattle.trace_lines.specs.Grammar.{ReadsSetup, ReadsCommand}
 use Rattle.trace_lines.specs.declared.commands.Command.{Command}
 use Rattle.trace_lines.specs.declared.commands.Command.TheVariants.{Raise, MaskHardware, Mask, Pump, Next, Done, Stall, Unstall, SetLevel, RestoreLevel}
 use Rattle.listing.specs.declared.listed.Listed.{Listed}
-use Rattle.listing.specs.declared.listed.Listed.TheVariants.{Accepted, Answered, Restored, Refused}
+use Rattle.listing.specs.declared.listed.Listed.TheVariants.{Accepted, Answered, Restored}
 use Rattle.listing.specs.declared.listed.ShortBuffer.{ShortBuffer}
 use Rattle.listing.specs.Listing.{line}
-use Rattle.trace.specs.declared.fault.TraceFault.{TraceFault}
-use Rattle.trace.specs.declared.fault.TraceFault.TheVariants.{Text, Machine, Saved}
-use Rattle.trace.specs.Calls.{Levels, Called, Saves, Restores}
-use Rattle.trace.specs.Listing.{listed}
+use Rattle.listing.specs.declared.listed.TraceFault.{TraceFault}
+use Rattle.listing.specs.declared.listed.TraceFault.TheVariants.{Text, Machine, Saved}
+use Rattle.trace.specs.declared.saved.Saved.{Saved as SavedLevels}
+use Rattle.trace.specs.Calls.{Levels, levels_in, Called, Saves, Restores}
 
 -- what the lines of a trace change: the machine and the saved levels of both kernels
 pub record Traced : Type 0 where
@@ -33,11 +33,12 @@ pub record Traced : Type 0 where
   pub at_head : Levels Class
   pub at_root : Levels BsdLevel
 
-abbrev pub levels_in : {L : Type 0} → List L → ℕ → Levels L
-levels_in xs n = record { places = xs; used = n }
-
 abbrev pub traced : MachineModel → Levels Class → Levels BsdLevel → Traced
 traced m a b = record { machine = m; at_head = a; at_root = b }
+
+-- the machine with the levels saved on the stacks of its kernels
+abbrev pub traced_by : MachineModel → SavedLevels → Traced
+traced_by m s = traced m (levels_in s.head) (levels_in s.root)
 
 -- a call of the machine leaves the saved levels
 abbrev pub Calls : Traced → Call → Result Listed TraceFault → Traced → Type 0
@@ -78,14 +79,13 @@ Reroutes m n x (Ok Accepted) m' =
     Routed m.hardware.lines (m.stage head).own.lines (m.stage root).own.lines n x (Ok tt) × (m' ≡ with_routes m (reroute m.routes n x))
 Reroutes m n x (Ok (Answered a)) m' = ⊥
 Reroutes m n x (Ok (Restored c)) m' = ⊥
-Reroutes m n x (Ok (Refused i p)) m' = ⊥
 Reroutes m n x (Err (Text e)) m' = ⊥
 Reroutes m n x (Err (Machine e)) m' = Routed m.hardware.lines (m.stage head).own.lines (m.stage root).own.lines n x (Err e) × (m' ≡ m)
 Reroutes m n x (Err (Saved e k)) m' = ⊥
 
 -- what each command before the start answers and leaves; `on` says whether the machine has started then
 abbrev pub SetsUp : MachineModel → Setup → Result Listed TraceFault → Bool → MachineModel → Type 0
-SetsUp m (Route n h p q) r on m' = (on ≡ false) × Reroutes m n (record { head_handles = h; head_passes = p; root_handles = q }) r m'
+SetsUp m (Route n x) r on m' = (on ≡ false) × Reroutes m n x r m'
 SetsUp m Start r on m' = (on ≡ true) × (r ≡ Ok Accepted) × (m' ≡ m)
 
 -- ---- a line
@@ -108,5 +108,5 @@ Plays true s l r on s' = (on ≡ true) × PlaysCommand s l r s'
 -- 20 bytes is refused before all else, and everything stays.
 abbrev pub Steps : Bool → Traced → List ℕ → List ℕ → Result ℕ ShortBuffer → Bool → Traced → List ℕ → Type 0
 Steps on s l xs (Ok n) on' s' ys =
-    (20 ≤ length xs) × ((r : Result Listed TraceFault) × Plays on s l r on' s' × (n ≡ length (line (listed r))) × (ys ≡ line (listed r) ++ drop n xs))
+    (20 ≤ length xs) × ((r : Result Listed TraceFault) × Plays on s l r on' s' × (n ≡ length (line r)) × (ys ≡ line r ++ drop n xs))
 Steps on s l xs (Err e) on' s' ys = (length xs < 20) × (on' ≡ on) × (s' ≡ s) × (ys ≡ xs)

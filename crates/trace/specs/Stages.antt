@@ -10,7 +10,6 @@ use Rattle.spl.specs.declared.policy.Policy as policy
 use Rattle.spl.specs.declared.head.HeadPolicy.{HeadPolicy}
 use Rattle.spl.specs.declared.root.RootPolicy.{RootPolicy}
 use Rattle.spl.specs.declared.layer.Spl.{Spl}
-use Rattle.spl.specs.Layer.{LayerConsistent}
 use Rattle.spl.specs.Head.{head_class, head_lowest, head_code, head_named}
 use Rattle.spl.specs.Root.{root_level, root_code, root_named}
 use Rattle.stall.specs.declared.layer.Stall.{Stall}
@@ -31,10 +30,9 @@ abbrev pub bsd_order : level.Ghosts BsdLevel
 bsd_order = record { above = λ a b. nat_lt (code b) (code a) }
 
 -- the stages over any controllers
-abbrev pub head_stage : {C L : Type 0} → controller.Ghosts C L → stage.Ghosts (Stall (Spl HeadPolicy C Class L) L)
-head_stage c =
-    record { model = λ s. stage_model head_policy class_order c s; consistent = λ s. LayerConsistent head_policy class_order c s.below }
+module _ {C L : Type 0} {l : level.Ghosts L} (c : controller.Ghosts C L) where
+  abbrev pub head_stage : stage.Ghosts (Stall (Spl HeadPolicy C Class L head_policy class_order c l) L)
+  head_stage = record { model = λ s. stage_model s }
 
-abbrev pub root_stage : {C L : Type 0} → controller.Ghosts C L → stage.Ghosts (Stall (Spl RootPolicy C BsdLevel L) L)
-root_stage c =
-    record { model = λ s. stage_model root_policy bsd_order c s; consistent = λ s. LayerConsistent root_policy bsd_order c s.below }
+  abbrev pub root_stage : stage.Ghosts (Stall (Spl RootPolicy C BsdLevel L root_policy bsd_order c l) L)
+  root_stage = record { model = λ s. stage_model s }

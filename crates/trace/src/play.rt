@@ -1,51 +1,46 @@
 // One line of a trace, read and obeyed.
 ghost use Rattle.std.specs.Prelude.{◌≡◌, ℕ};
-ghost use Rattle.machine.specs.Whole.{model_of, ConsistentOf, ConsistentLaidOut};
-ghost use Rattle.trace.specs.Lines.{levels_in, traced, SetsUp, PlaysSetup, PlaysCommand, Plays};
-ghost use Rattle.trace.specs.Sessions.{has_started, session_model, SessionConsistent};
+ghost use Rattle.machine.specs.Whole.{model_of};
+ghost use Rattle.trace.specs.Calls.{SameStacks};
+ghost use Rattle.trace.specs.Lines.{traced_by, Reroutes, SetsUp, PlaysSetup, PlaysCommand, Plays};
+ghost use Rattle.trace.specs.Sessions.{has_started, session_model};
 ghost use Rattle.trace.specs.Stages.{head_stage, root_stage};
 
 use crate::obey::obey;
-use crate::setup::reroute;
-use crate::{Session, TraceFault};
+use crate::{HeadOn, RootOn, Saved, Session};
 use controller::Controller;
-use level_stack::LevelStack;
-use levels::{BsdLevel, Class};
-use listing::Listed;
+use listing::{Listed, TraceFault};
 use machine::{LaidOut, Machine, Running};
 use routes::Route;
-use spl::{HeadPolicy, RootPolicy, Spl};
 use stage::Stage;
-use stall::Stall;
-use trace_lines::{Command, Setup, read_command, read_setup};
+use trace_lines::{Setup, read_command, read_setup};
 
-// What a line left and answered.
-pub(crate) struct Played<H, A, B> {
+// The session that a line left, and its result: named parts, like a step's.
+pub(crate) struct Played<H: Controller, A: Stage, B: Stage> {
     pub(crate) session: Session<H, A, B>,
     pub(crate) result: Result<Listed, TraceFault>,
 }
 
+// Sets the route of a line.
+fn reroute<H: Controller, A: Stage, B: Stage>(
+    machine: &mut Machine<LaidOut, H, A, B>,
+    line: u8,
+    route: Route,
+) -> Result<Listed, TraceFault>
+    ensures { Reroutes (model_of H.Controller A.Stage B.Stage machine.old) line route result (model_of H.Controller A.Stage B.Stage machine.new) }
+{
+    machine.route(line, route)?;
+    Ok(Listed::Accepted)
+}
+
 fn set_up<H: Controller, A: Stage, B: Stage>(
-    machine: Machine<LaidOut, H, A, B>,
+    mut machine: Machine<LaidOut, H, A, B>,
     setup: Setup,
 ) -> Played<H, A, B>
-    requires { ConsistentLaidOut H.Controller A.Stage B.Stage machine }
-    ensures keeps { SessionConsistent H.Controller A.Stage B.Stage result.session }
-    ensures sets { SetsUp (model_of H.Controller A.Stage B.Stage machine) setup result.result (has_started result.session) (session_model H.Controller A.Stage B.Stage result.session) }
+    ensures { SetsUp (model_of H.Controller A.Stage B.Stage machine) setup result.result (has_started result.session) (session_model H.Controller A.Stage B.Stage result.session) }
 {
-    let mut machine = machine;
     match setup {
-        Setup::Route {
-            line,
-            head_handles,
-            head_passes,
-            root_handles,
-        } => {
-            let route = Route {
-                head_handles,
-                head_passes,
-                root_handles,
-            };
+        Setup::Route { line, route } => {
             let result = reroute(&mut machine, line, route);
             Played {
                 session: Session::LaidOut(machine),
@@ -64,9 +59,7 @@ fn before_start<H: Controller, A: Stage, B: Stage>(
     machine: Machine<LaidOut, H, A, B>,
     line: &[u8],
 ) -> Played<H, A, B>
-    requires { ConsistentLaidOut H.Controller A.Stage B.Stage machine }
-    ensures keeps { SessionConsistent H.Controller A.Stage B.Stage result.session }
-    ensures plays { PlaysSetup (model_of H.Controller A.Stage B.Stage machine) line.now result.result (has_started result.session) (session_model H.Controller A.Stage B.Stage result.session) }
+    ensures { PlaysSetup (model_of H.Controller A.Stage B.Stage machine) line.now result.result (has_started result.session) (session_model H.Controller A.Stage B.Stage result.session) }
 {
     match read_setup(line) {
         Ok(setup) => set_up(machine, setup),
@@ -79,37 +72,30 @@ fn before_start<H: Controller, A: Stage, B: Stage>(
 
 // A line after the start.
 fn after_start<H: Controller, C: Controller, D: Controller>(
-    machine: &mut Machine<Running, H, Stall<Spl<HeadPolicy, C>>, Stall<Spl<RootPolicy, D>>>,
-    head: &mut LevelStack<'_, Class>,
-    root: &mut LevelStack<'_, BsdLevel>,
+    machine: &mut Machine<Running, H, HeadOn<C>, RootOn<D>>,
+    saved: &mut Saved<'_>,
     line: &[u8],
 ) -> Result<Listed, TraceFault>
-    requires { ConsistentOf H.Controller (head_stage C.Controller) (root_stage D.Controller) machine.old }
-    ensures keeps { ConsistentOf H.Controller (head_stage C.Controller) (root_stage D.Controller) machine.new }
-    ensures lent { (head.new.places.ghost_name ≡ head.old.places.ghost_name) × (root.new.places.ghost_name ≡ root.old.places.ghost_name) }
-    ensures plays { PlaysCommand (traced (model_of H.Controller (head_stage C.Controller) (root_stage D.Controller) machine.old) (levels_in head.old.places.now head.old.used) (levels_in root.old.places.now root.old.used)) line.now result (traced (model_of H.Controller (head_stage C.Controller) (root_stage D.Controller) machine.new) (levels_in head.new.places.now head.new.used) (levels_in root.new.places.now root.new.used)) }
+    ensures lent { SameStacks saved.old saved.new }
+    ensures plays { PlaysCommand (traced_by (model_of H.Controller (head_stage C.Controller) (root_stage D.Controller) machine.old) saved.old) line.now result (traced_by (model_of H.Controller (head_stage C.Controller) (root_stage D.Controller) machine.new) saved.new) }
 {
     let command = read_command(line)?;
-    obey(machine, head, root, command)
+    obey(machine, saved, command)
 }
 
 // A line at whichever phase the machine is.
 pub(crate) fn play_line<H: Controller, C: Controller, D: Controller>(
-    session: Session<H, Stall<Spl<HeadPolicy, C>>, Stall<Spl<RootPolicy, D>>>,
-    head: &mut LevelStack<'_, Class>,
-    root: &mut LevelStack<'_, BsdLevel>,
+    session: Session<H, HeadOn<C>, RootOn<D>>,
+    saved: &mut Saved<'_>,
     line: &[u8],
-) -> Played<H, Stall<Spl<HeadPolicy, C>>, Stall<Spl<RootPolicy, D>>>
-    requires { SessionConsistent H.Controller (head_stage C.Controller) (root_stage D.Controller) session }
-    ensures keeps { SessionConsistent H.Controller (head_stage C.Controller) (root_stage D.Controller) result.session }
-    ensures lent { (head.new.places.ghost_name ≡ head.old.places.ghost_name) × (root.new.places.ghost_name ≡ root.old.places.ghost_name) }
-    ensures plays { Plays (has_started session) (traced (session_model H.Controller (head_stage C.Controller) (root_stage D.Controller) session) (levels_in head.old.places.now head.old.used) (levels_in root.old.places.now root.old.used)) line.now result.result (has_started result.session) (traced (session_model H.Controller (head_stage C.Controller) (root_stage D.Controller) result.session) (levels_in head.new.places.now head.new.used) (levels_in root.new.places.now root.new.used)) }
+) -> Played<H, HeadOn<C>, RootOn<D>>
+    ensures lent { SameStacks saved.old saved.new }
+    ensures plays { Plays (has_started session) (traced_by (session_model H.Controller (head_stage C.Controller) (root_stage D.Controller) session) saved.old) line.now result.result (has_started result.session) (traced_by (session_model H.Controller (head_stage C.Controller) (root_stage D.Controller) result.session) saved.new) }
 {
     match session {
         Session::LaidOut(machine) => before_start(machine, line),
-        Session::Running(machine) => {
-            let mut machine = machine;
-            let result = after_start(&mut machine, head, root, line);
+        Session::Running(mut machine) => {
+            let result = after_start(&mut machine, saved, line);
             Played {
                 session: Session::Running(machine),
                 result,

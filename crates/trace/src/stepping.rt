@@ -1,74 +1,42 @@
 // One line of a trace, played and listed.
 ghost use Rattle.std.specs.Prelude.{◌≡◌, ℕ, length, nat_lt};
-ghost use Rattle.trace.specs.Lines.{levels_in, traced, Steps};
-ghost use Rattle.trace.specs.Listing.{listed, refused};
-ghost use Rattle.trace.specs.Sessions.{has_started, session_model, SessionConsistent};
+ghost use Rattle.trace.specs.Calls.{SameStacks};
+ghost use Rattle.trace.specs.Lines.{traced_by, Steps};
+ghost use Rattle.trace.specs.Sessions.{has_started, session_model};
 ghost use Rattle.trace.specs.Stages.{head_stage, root_stage};
 
 use crate::play::{Played, play_line};
-use crate::{Session, TraceFault};
+use crate::{HeadOn, RootOn, Saved, Session};
 use controller::Controller;
-use level_stack::LevelStack;
-use levels::{BsdLevel, Class};
-use listing::{Listed, ListedPlace, ShortBuffer, write_line};
-use model::{Answer, Place};
-use spl::{HeadPolicy, RootPolicy, Spl};
-use stall::Stall;
+use listing::{ShortBuffer, write_line};
+use stage::Stage;
 
-// The machine after a step, and how many bytes the step wrote.
-pub struct Stepped<H, A, B> {
+// The machine after a step, and how many bytes the step wrote, since the buffer is its lender's: named parts, where one generic pair would name neither.
+#[derive(Drop)]
+pub struct Stepped<H: Controller, A: Stage, B: Stage> {
     pub session: Session<H, A, B>,
     pub written: Result<usize, ShortBuffer>,
 }
 
-// A refusal by its number and its place.
-fn refused(fault: TraceFault) -> Listed
-    ensures { result ≡ refused fault }
-{
-    match fault {
-        TraceFault::Text(fault) => Listed::Refused {
-            number: fault.number(),
-            place: ListedPlace::Text,
-        },
-        TraceFault::Machine(fault) => Listed::Answered(Answer::Refused {
-            number: fault.fault.number(),
-            place: fault.place,
-        }),
-        TraceFault::Saved { fault, kernel } => Listed::Refused {
-            number: fault.number(),
-            place: ListedPlace::Machine(Place::Kernel(kernel)),
-        },
-    }
-}
-
-fn listed(res: Result<Listed, TraceFault>) -> Listed
-    ensures { result ≡ listed res }
-{
-    match res {
-        Ok(listed) => listed,
-        Err(fault) => refused(fault),
-    }
-}
+// How many bytes a buffer has at least.
+const ROOM: usize = 20;
 
 // Whether a buffer has under 20 bytes.
 fn is_short(out: &[u8]) -> bool
     ensures { result ≡ nat_lt (length out.now) 20 }
 {
-    out.len() < 20
+    out.len() < ROOM
 }
 
 // Plays the line and lists it at the start of the buffer. A buffer under 20 bytes is refused before all else, and nothing changes.
 pub fn step<H: Controller, C: Controller, D: Controller>(
-    session: Session<H, Stall<Spl<HeadPolicy, C>>, Stall<Spl<RootPolicy, D>>>,
-    head: &mut LevelStack<'_, Class>,
-    root: &mut LevelStack<'_, BsdLevel>,
+    session: Session<H, HeadOn<C>, RootOn<D>>,
+    saved: &mut Saved<'_>,
     line: &[u8],
     out: &mut [u8],
-) -> Stepped<H, Stall<Spl<HeadPolicy, C>>, Stall<Spl<RootPolicy, D>>>
-    requires { SessionConsistent H.Controller (head_stage C.Controller) (root_stage D.Controller) session }
-    ensures keeps { SessionConsistent H.Controller (head_stage C.Controller) (root_stage D.Controller) result.session }
-    ensures lent { (head.new.places.ghost_name ≡ head.old.places.ghost_name) × (root.new.places.ghost_name ≡ root.old.places.ghost_name) }
-    ensures steps { Steps (has_started session) (traced (session_model H.Controller (head_stage C.Controller) (root_stage D.Controller) session) (levels_in head.old.places.now head.old.used) (levels_in root.old.places.now root.old.used)) line.now out.old result.written (has_started result.session) (traced (session_model H.Controller (head_stage C.Controller) (root_stage D.Controller) result.session) (levels_in head.new.places.now head.new.used) (levels_in root.new.places.now root.new.used)) out.new }
+) -> Stepped<H, HeadOn<C>, RootOn<D>>
+    ensures lent { SameStacks saved.old saved.new }
+    ensures steps { Steps (has_started session) (traced_by (session_model H.Controller (head_stage C.Controller) (root_stage D.Controller) session) saved.old) line.now out.old result.written (has_started result.session) (traced_by (session_model H.Controller (head_stage C.Controller) (root_stage D.Controller) result.session) saved.new) out.new }
 {
     if is_short(out) {
         return Stepped {
@@ -76,7 +44,7 @@ pub fn step<H: Controller, C: Controller, D: Controller>(
             written: Err(ShortBuffer),
         };
     }
-    let Played { session, result } = play_line(session, head, root, line);
-    let written = write_line(out, listed(result));
+    let Played { session, result } = play_line(session, saved, line);
+    let written = write_line(out, result);
     Stepped { session, written }
 }

@@ -1,7 +1,9 @@
 -- The whole lines of a text, and the one that has begun.
-use Rattle.std.proofs.Common.{◌≡◌, ℕ, ◌+◌, ◌<◌, ◌≤◌, true, false, cond, not, eqb, List, [], ◌∷◌, ◌++◌, length, take, drop, sym, refl, ap, ◌∙◌, subst, ap₂, inl, inr, add-one, one-add, arith, length-take}
-use Rattle.std.proofs.lemmas.Bool.{cases_Bool}
-use Rattle.trace_lines.specs.Cut.{before_first, lines_of, onto_first, whole_lines, before_begun, begun, last_line, LinesAre, CutAnywhere, FirstWholeLine, NoWholeLine, line_length}
+use Rattle.std.proofs.Common.{◌≡◌, ℕ, ◌+◌, ◌<◌, ◌≤◌, true, false, cond, not, eqb, ltb, List, [], ◌∷◌, ◌++◌, length, take, drop, sym, refl, ap, ◌∙◌, subst, ap₂, inl, inr, Some, None, add-one, one-add, arith, length-take}
+use Rattle.std.specs.List.{position, position_or_len}
+use Rattle.std.proofs.lemmas.Bool.{cases_Bool, ltb-true, ltb-false}
+use Rattle.trace_lines.specs.Cut.{before_first, lines_of, onto_first, whole_lines, before_begun, begun, last_line, LinesAre, CutAnywhere, FirstWholeLine, NoWholeLine}
+use Rattle.trace_lines.proofs.Options.{cond_some, cond_none}
 
 -- ---- the lines are the whole ones and the one that has begun
 
@@ -100,6 +102,10 @@ begun_unended (c ∷ s) =
 
 -- ---- the first whole line
 
+-- how many bytes stand before the first line feed, or in all
+abbrev line_length : List ℕ → ℕ
+line_length s = position_or_len (λ c. eqb c 10) s
+
 none_within : (s : List ℕ) → length s ≤ line_length s → (whole_lines s ≡ []) × (begun s ≡ s)
 none_within [] h = (refl, refl)
 none_within (c ∷ s) h =
@@ -110,8 +116,9 @@ none_within (c ∷ s) h =
           (more_lines c s e ∙ ap (onto_first c) p, more_begun c s e ∙ ap₂ (before_begun c) p q)
     ]
 
-pub no_whole_line : (s : List ℕ) (n : ℕ) → n ≡ line_length s → length s ≤ n → NoWholeLine s
-no_whole_line s n e h = let (p, q) = none_within s (omega arith) in record { lines = p; begins = q }
+pub no_whole_line : (s : List ℕ) → position (λ c. eqb c 10) s ≡ None → NoWholeLine s
+no_whole_line s e =
+    let (p, q) = none_within s (ltb-false (line_length s) (length s) (cond_none _ (line_length s) e)) in record { lines = p; begins = q }
 
 abbrev CutAt : List ℕ → ℕ → Type 0
 CutAt s n = (whole_lines s ≡ take n s ∷ whole_lines (drop (n + 1) s)) × (begun s ≡ begun (drop (n + 1) s))
@@ -128,9 +135,12 @@ first_whole (c ∷ s) h =
           (more_lines c s e ∙ ap (onto_first c) p ∙ simp (one-add, add-one), more_begun c s e ∙ ap₂ (before_begun c) p q ∙ simp (one-add, add-one))
     ]
 
-pub first_whole_cut : (s line rest : List ℕ) (n : ℕ) → n ≡ line_length s → n < length s → line ≡ take n s → rest ≡ drop (n + 1) s → FirstWholeLine s line rest
-first_whole_cut s line rest n e h p q =
-    let (x, y) = subst (CutAt s) (sym e) (first_whole s (omega arith)) in
+pub first_whole_cut : (s line rest : List ℕ) (n : ℕ) → position (λ c. eqb c 10) s ≡ Some n → line ≡ take n s → rest ≡ drop (n + 1) s → FirstWholeLine s line rest
+first_whole_cut s line rest n f p q =
+    let g = cond_some (ltb (line_length s) (length s)) (Some (line_length s)) n f in
+    let e : line_length s ≡ n = cc g.1 in
+    let h : n < length s = subst (λ n. n < length s) e (ltb-true (line_length s) (length s) g.0) in
+    let (x, y) = subst (CutAt s) e (first_whole s (omega (arith, h, e))) in
     let l : length line ≡ n = ap length p ∙ simp length-take (omega arith) in
     record {
       lines = x ∙ ap₂ (λ a b. a ∷ whole_lines b) (sym p) (sym q);

@@ -1,31 +1,30 @@
--- The first line of a text, by the lines of the text.
-use Rattle.std.proofs.Common.{◌≡◌, ℕ, ◌+◌, ◌<◌, true, false, cond, not, eqb, List, [], ◌∷◌, length, take, drop, sym, refl, ap, ◌∙◌, add-one, one-add, arith, length-drop, length-take}
-use Rattle.std.proofs.lemmas.List.Sums.{prefix_len-le-length}
-use Rattle.trace_lines.specs.Cut.{before_first, lines_of, FirstLine, ordinary, line_length}
+-- The first line of a text, by its whole lines and the one that has begun.
+use Rattle.std.proofs.Common.{◌≡◌, ℕ, ◌<◌, false, eqb, List, [], ◌∷◌, ◌++◌, length, Some, None, Option, sym, ap, ◌∙◌, ap₂, arith, length-drop}
+use Rattle.std.specs.Option.{MatchOption, option_or}
+use Rattle.std.proofs.lemmas.Bool.{eqb-false}
+use Rattle.std.proofs.lemmas.List.{drop_all}
+use Rattle.trace_lines.specs.Cut.{last_line, FirstLine, FirstWholeLine, NoWholeLine}
+use Rattle.trace_lines.proofs.Cutting.{lines_are}
 
-more : (c : ℕ) (s : List ℕ) (n : ℕ) → lines_of s ≡ take n s ∷ lines_of (drop (n + 1) s)
-    → before_first c (lines_of s) ≡ take (1 + n) (c ∷ s) ∷ lines_of (drop (1 + n + 1) (c ∷ s))
-more c s n e = ap (before_first c) e ∙ simp (one-add, add-one)
-
-pub first_line : (s : List ℕ) → 0 < length s → lines_of s ≡ take (line_length s) s ∷ lines_of (drop (line_length s + 1) s)
-first_line [] h = absurd (omega arith)
-first_line (c ∷ []) h =
-    elim (eqb c 10) as (λ t. cond t ([] ∷ []) ((c ∷ []) ∷ []) ≡ take (cond (not t) (1 + 0) 0) (c ∷ []) ∷ lines_of (drop (cond (not t) (1 + 0) 0 + 1) (c ∷ [])))
-    [ true ↦ refl | false ↦ refl ]
-first_line (c ∷ d ∷ s) h =
-    let e = first_line (d ∷ s) (omega arith) in
-    let n = line_length (d ∷ s) in
-    elim (eqb c 10) as (λ t. cond t ([] ∷ lines_of (d ∷ s)) (before_first c (lines_of (d ∷ s))) ≡ take (cond (not t) (1 + n) 0) (c ∷ d ∷ s) ∷ lines_of (drop (cond (not t) (1 + n) 0 + 1) (c ∷ d ∷ s))) [
-      | true ↦ refl
-      | false ↦ more c (d ∷ s) n e
-    ]
-
-pub first_cut : (s line rest : List ℕ) (n : ℕ) → 0 < length s → n ≡ line_length s → line ≡ take n s → rest ≡ drop (n + 1) s → FirstLine s line rest
-first_cut s line rest n h e p q =
-    let b = prefix_len-le-length ordinary s in
-    let l : length line ≡ n = ap length p ∙ simp length-take (omega arith) in
+pub first_whole_line : (s line rest : List ℕ) → FirstWholeLine s line rest → FirstLine s line rest
+first_whole_line s line rest h =
     record {
-      lines = first_line s h ∙ ap (λ k. take k s ∷ lines_of (drop (k + 1) s)) (sym e) ∙ ap (λ t. t ∷ lines_of (drop (n + 1) s)) (sym p) ∙ ap (λ t. line ∷ lines_of t) (sym q);
-      after = q ∙ ap (λ k. drop (k + 1) s) (sym l);
-      shorter = rw q (simp length-drop (omega arith));
+      lines = lines_are s ∙ ap₂ (λ ls u. ls ++ last_line u) h.lines h.begins ∙ ap (λ ls. line ∷ ls) (sym (lines_are rest));
+      after = h.after;
+      shorter = rw h.after (simp length-drop (omega (arith, h.within)));
     }
+
+pub only_line : (s : List ℕ) → 0 < length s → NoWholeLine s → FirstLine s s []
+only_line [] h n = absurd (omega arith)
+only_line (c ∷ s) h n =
+    record {
+      lines = lines_are (c ∷ s) ∙ ap₂ (λ ls u. ls ++ last_line u) n.lines n.begins;
+      after = sym (drop_all _ (c ∷ s) (omega arith));
+      shorter = omega arith;
+    }
+
+module _ (s : List ℕ) {C : Type 0} (line rest : C → List ℕ) where
+  pub whole_or_only : (o : Option C) (whole : C) → eqb (length s) 0 ≡ false → MatchOption o (NoWholeLine s) (λ cut. FirstWholeLine s (line cut) (rest cut)) → line whole ≡ s → rest whole ≡ []
+      → MatchOption (option_or o (Some whole)) (length s ≡ 0) (λ cut. FirstLine s (line cut) (rest cut))
+  whole_or_only None whole h m p q = let f : length s ≡ 0 → ⊥ = eqb-false (length s) 0 h in rw (p, q) (only_line s (omega (arith, f)) m)
+  whole_or_only (Some cut) whole h m p q = first_whole_line s (line cut) (rest cut) m

@@ -1,6 +1,7 @@
 pub mod Cutting
 mod FirstLines
 mod OneWay
+mod Options
 mod Reading
 mod Setups
 mod Written

@@ -1,5 +1,5 @@
 -- A line is read in one way.
-use Rattle.std.proofs.Common.{◌≡◌, ℕ, Bool, true, false, List, Some, Ok, Err, Option, sym, refl, ap, ◌∙◌, ⊎_elim, arith}
+use Rattle.std.proofs.Common.{◌≡◌, ℕ, ◌+◌, Bool, true, false, cond, List, Some, Ok, Err, Option, sym, refl, ap, ◌∙◌, ⊎_elim, arith}
 use Rattle.std.proofs.lemmas.Bool.{both_ways}
 use Rattle.trace_lines.specs.declared.commands.TextFault.TheVariants.{Form, Range}
 use Rattle.trace_lines.specs.declared.commands.Setup.{Setup}
@@ -28,17 +28,22 @@ module _ {F C : Type 0} (Line : List ℕ → F → Type 0) (in_range : F → Boo
   one s (Err Form) (Err Range) v w = absurd (⊎_elim (λ h. omega (arith, h, w.0)) (λ n. n w.1.0 w.1.1) v)
   one s (Err Form) (Err Form) v w = refl
 
+one_flags : (n : ℕ) (a b c : Bool)
+    → Route n (record { head_handles = a; head_passes = b; root_handles = c }) ≡ setup_of (route n (cond a 1 0 + cond b 2 0 + cond c 4 0))
+one_flags n true true true = refl
+one_flags n true true false = refl
+one_flags n true false true = refl
+one_flags n true false false = refl
+one_flags n false true true = refl
+one_flags n false true false = refl
+one_flags n false false true = refl
+one_flags n false false false = refl
+
 one_setup : (f : SetupForm) (c : Setup) → SetupSays f c → c ≡ setup_of f
-one_setup (route n f) (Route line true true true) w = ap (λ n. setup_of (route n 7)) w.0 ∙ ap (λ f. setup_of (route n f)) (sym w.1)
-one_setup (route n f) (Route line true true false) w = ap (λ n. setup_of (route n 3)) w.0 ∙ ap (λ f. setup_of (route n f)) (sym w.1)
-one_setup (route n f) (Route line true false true) w = ap (λ n. setup_of (route n 5)) w.0 ∙ ap (λ f. setup_of (route n f)) (sym w.1)
-one_setup (route n f) (Route line true false false) w = ap (λ n. setup_of (route n 1)) w.0 ∙ ap (λ f. setup_of (route n f)) (sym w.1)
-one_setup (route n f) (Route line false true true) w = ap (λ n. setup_of (route n 6)) w.0 ∙ ap (λ f. setup_of (route n f)) (sym w.1)
-one_setup (route n f) (Route line false true false) w = ap (λ n. setup_of (route n 2)) w.0 ∙ ap (λ f. setup_of (route n f)) (sym w.1)
-one_setup (route n f) (Route line false false true) w = ap (λ n. setup_of (route n 4)) w.0 ∙ ap (λ f. setup_of (route n f)) (sym w.1)
-one_setup (route n f) (Route line false false false) w = ap (λ n. setup_of (route n 0)) w.0 ∙ ap (λ f. setup_of (route n f)) (sym w.1)
+one_setup (route n f) (Route line r) w =
+    ap (λ n. Route n r) w.0 ∙ one_flags n r.head_handles r.head_passes r.root_handles ∙ ap (λ f. setup_of (route n f)) (sym w.1)
 one_setup (route n f) Start w = absurd w
-one_setup start (Route line a b c) w = absurd w
+one_setup start (Route line r) w = absurd w
 one_setup start Start w = refl
 
 pub setup_one : Unambiguous ReadsSetup

@@ -1,14 +1,16 @@
 -- The form found of a line before the start is the one that the grammar gives it.
-use Rattle.std.proofs.Common.{◌≡◌, ℕ, suc, ◌+◌, ◌-◌, ◌≤◌, true, cond, ◌&&◌, eqb, leb, List, [], ◌∷◌, ◌++◌, length, get_or, take, drop, Some, None, Ok, Err, Result, sym, refl, ap, ◌∙◌, subst, ⊎_elim, arith, length-append, drop-cons}
+use Rattle.std.proofs.Common.{◌≡◌, ℕ, suc, ◌+◌, ◌-◌, ◌≤◌, true, false, cond, ◌&&◌, eqb, leb, List, [], ◌∷◌, ◌++◌, length, get_or, take, Some, None, Ok, Err, Result, sym, refl, ap, ◌∙◌, subst, ⊎_elim, arith, length-append, drop-cons}
 use Rattle.std.proofs.lemmas.List.{take_all, drop_all, take-append-drop, take-append-le, get_or-append_right}
 use Rattle.std.proofs.lemmas.Bool.{le-leb, leb-true, and_parts, eqb-true}
 use Rattle.std.proofs.lemmas.Bool.Decides.{nat_tests}
+use Rattle.std.proofs.lemmas.Option.{none-some}
 use Rattle.trace_lines.specs.declared.commands.TextFault.{TextFault}
 use Rattle.trace_lines.specs.declared.commands.TextFault.TheVariants.{Form, Range}
 use Rattle.trace_lines.specs.Numerals.{numeral, number_after}
 use Rattle.trace_lines.specs.Grammar.{Number, Digit, SetupForm, route, start, SetupLine, setup_in_range, SetupSays, Reads, ReadsSetup}
-use Rattle.trace_lines.specs.Forms.{ranged, both, route_form, arguments_form, setup_form, setup_of, said}
-use Rattle.trace_lines.proofs.Written.{none_some, cond_some, cond_pick, both_some, reads_ranged}
+use Rattle.trace_lines.specs.Forms.{ranged, both, route_form, setup_form, setup_of, said}
+use Rattle.trace_lines.proofs.Options.{cond_some, cond_pick, both_some}
+use Rattle.trace_lines.proofs.Written.{reads_ranged}
 
 -- ---- L and F
 
@@ -69,53 +71,45 @@ route_back s f e =
 
 -- ---- the letters
 
-arguments_there : (s : List ℕ) → arguments_form 97 (32 ∷ s) ≡ route_form s
-arguments_there s =
-    ap (λ t. cond (t && true) (route_form (take (length (32 ∷ s) - 1) s)) None) (le-leb 1 (length (32 ∷ s)) (omega arith))
-    ∙ ap route_form (take_all (length (32 ∷ s) - 1) s (omega arith))
-
-letter_there : (c : ℕ) (s : List ℕ) → setup_form (c ∷ s) ≡ arguments_form c s
-letter_there c s =
-    ap (λ t. cond t (arguments_form c (take (length (c ∷ s) - 1) s)) None) (le-leb 1 (length (c ∷ s)) (omega arith))
-    ∙ ap (arguments_form c) (take_all (length (c ∷ s) - 1) s (omega arith))
+setup_route : (s : List ℕ) → setup_form (97 ∷ 32 ∷ s) ≡ route_form s
+setup_route s =
+    ap (λ t. cond (t && true) (route_form (take (length (97 ∷ 32 ∷ s) - 2) s)) (cond (eqb (length (97 ∷ 32 ∷ s)) 1 && false) (Some start) None)) (le-leb 2 (length (97 ∷ 32 ∷ s)) (omega arith))
+    ∙ ap route_form (take_all (length (97 ∷ 32 ∷ s) - 2) s (omega arith))
 
 routed : (l t : List ℕ) (n f : ℕ) → Number l n → Digit t f → route_form (l ++ (32 ∷ t)) ≡ Some (route n f)
-routed l [] n f p q = absurd (none_some f q)
+routed l [] n f p q = absurd (none-some f q)
 routed l (d ∷ []) n f p q = route_there l d n f p q
 routed l (d ∷ c ∷ t) n f p q =
     let h = cond_some _ (number_after 10 0 (d ∷ c ∷ t)) f q in absurd (omega (arith, leb-true (length (d ∷ c ∷ t)) 1 (and_parts _ _ h.0).1))
 
 pub setup_there : (s : List ℕ) (f : SetupForm) → SetupLine s f → setup_form s ≡ Some f
 setup_there s (route n f) w =
-    ap setup_form w.4 ∙ letter_there 97 (32 ∷ (w.0 ++ (32 ∷ w.1))) ∙ arguments_there (w.0 ++ (32 ∷ w.1)) ∙ routed w.0 w.1 n f w.2 w.3
+    ap setup_form w.4 ∙ setup_route (w.0 ++ (32 ∷ w.1)) ∙ routed w.0 w.1 n f w.2 w.3
 setup_there s start w = ap setup_form w
 
-blank_back : (s : List ℕ) (f : SetupForm) → (leb 1 (length s) && eqb (get_or s 0 0) 32) ≡ true → route_form (take (length s - 1) (drop 1 s)) ≡ Some f → SetupLine (97 ∷ s) f
-blank_back [] f t e = absurd (omega (arith, leb-true 1 0 t))
-blank_back (b ∷ s) f t e =
-    subst (λ b. SetupLine (97 ∷ b ∷ s) f) (sym (eqb-true b 32 (and_parts _ (eqb b 32) t).1))
-    (route_back s f (ap route_form (sym (take_all (length (b ∷ s) - 1) s (omega arith))) ∙ e))
-
-none_left : (s : List ℕ) → length s ≡ 0 → s ≡ []
-none_left [] e = refl
-none_left (c ∷ s) e = absurd (omega arith)
-
-arguments_back : (c : ℕ) (s : List ℕ) (f : SetupForm) → arguments_form c s ≡ Some f → SetupLine (c ∷ s) f
-arguments_back c s f e =
-    ⊎_elim
-    (λ p. let t = and_parts (eqb c 97) (leb 1 (length s) && eqb (get_or s 0 0) 32) p.0 in
-    subst (λ c. SetupLine (c ∷ s) f) (sym (eqb-true c 97 t.0)) (blank_back s f t.1 p.1))
-    (λ r. let p = cond_some (eqb c 98 && eqb (length s) 0) (Some start) f r in
-    let t = and_parts (eqb c 98) (eqb (length s) 0) p.0 in
+start_back : (s : List ℕ) (f : SetupForm) → cond (eqb (length s) 1 && eqb (get_or s 0 0) 98) (Some start) None ≡ Some f → SetupLine s f
+start_back [] f e = absurd (none-some f e)
+start_back (c ∷ []) f e =
+    let p = cond_some (eqb c 98) (Some start) f e in
     let q : start ≡ f = cc p.1 in
-    let z : s ≡ [] = none_left s (eqb-true (length s) 0 t.1) in
-    let a : c ≡ 98 = eqb-true c 98 t.0 in
-    subst (SetupLine (c ∷ s)) q (ap (λ c. c ∷ s) a ∙ ap (λ s. 98 ∷ s) z))
-    (cond_pick _ _ _ f e)
+    subst (SetupLine (c ∷ [])) q (ap (λ c. c ∷ []) (eqb-true c 98 p.0))
+start_back (c ∷ d ∷ s) f e =
+    let p = cond_some (eqb (length (c ∷ d ∷ s)) 1 && eqb c 98) (Some start) f e in
+    absurd (omega (arith, eqb-true (length (c ∷ d ∷ s)) 1 (and_parts _ (eqb c 98) p.0).0))
 
 pub setup_back : (s : List ℕ) (f : SetupForm) → setup_form s ≡ Some f → SetupLine s f
-setup_back [] f e = absurd (none_some f e)
-setup_back (c ∷ s) f e = arguments_back c s f (sym (letter_there c s) ∙ e)
+setup_back [] f e = start_back [] f e
+setup_back (c ∷ []) f e = start_back (c ∷ []) f e
+setup_back (c ∷ b ∷ s) f e =
+    let long = leb 2 (length (c ∷ b ∷ s)) in
+    let rest = take (length (c ∷ b ∷ s) - 2) s in
+    let same : rest ≡ s = take_all (length (c ∷ b ∷ s) - 2) s (omega arith) in
+    ⊎_elim
+    (λ p. let t = and_parts (eqb c 97) (eqb b 32) (and_parts long (eqb c 97 && eqb b 32) p.0).1 in
+    subst (λ c. SetupLine (c ∷ b ∷ s) f) (sym (eqb-true c 97 t.0))
+    (subst (λ b. SetupLine (97 ∷ b ∷ s) f) (sym (eqb-true b 32 t.1)) (route_back s f (ap route_form (sym same) ∙ p.1))))
+    (start_back (c ∷ b ∷ s) f)
+    (cond_pick (long && (eqb c 97 && eqb b 32)) (route_form rest) _ f e)
 
 -- ---- what a form says
 

@@ -1,7 +1,9 @@
 -- The form found of a line byte by byte is the one that the grammar gives it.
-use Rattle.std.proofs.Common.{◌≡◌, ℕ, ◌-◌, ◌≤◌, Bool, true, false, cond, ◌&&◌, eqb, leb, ◌⊎◌, List, [], ◌∷◌, ◌++◌, length, get_or, take, drop, Some, None, Ok, Err, Option, sym, refl, ap, ◌∙◌, subst, inl, inr, ⊎_elim, arith}
+use Rattle.std.proofs.Common.{◌≡◌, ℕ, ◌-◌, ◌≤◌, Bool, true, cond, ◌&&◌, eqb, leb, List, [], ◌∷◌, ◌++◌, length, get_or, take, drop, Some, None, Ok, Err, Option, sym, refl, ap, ◌∙◌, subst, inr, ⊎_elim, arith}
+use Rattle.std.specs.Option.{option_map}
 use Rattle.std.proofs.lemmas.List.{take_all}
 use Rattle.std.proofs.lemmas.Bool.{le-leb, and_parts, eqb-true, cond_both}
+use Rattle.std.proofs.lemmas.Option.{none-some}
 use Rattle.lines.specs.declared.line_set.LineSet.{LineSet}
 use Rattle.model.specs.declared.calls.Kernel.{Kernel}
 use Rattle.model.specs.declared.calls.Kernel.TheVariants.{Head, Root}
@@ -10,28 +12,8 @@ use Rattle.trace_lines.specs.declared.commands.Command.{Command}
 use Rattle.trace_lines.specs.declared.commands.Command.TheVariants.{Raise, MaskHardware, Mask, Pump, Next, Done, Stall, Unstall, SetLevel, RestoreLevel}
 use Rattle.trace_lines.specs.Numerals.{numeral}
 use Rattle.trace_lines.specs.Grammar.{kernel_name, CommandLine, command_in_range, Reads, ReadsCommand}
-use Rattle.trace_lines.specs.Forms.{ranged, mapped, both, kernel_of, kernel_and, set_of, letter_form, command_form}
-
-pub none_some : {X : Type 0} (x : X) → None ≡ Some x → ⊥
-none_some x e = let z : ◌≡◌ {A = ℕ} 0 1 = cc in omega arith
-
-pub cond_some : {X : Type 0} (t : Bool) (o : Option X) (x : X) → cond t o None ≡ Some x → (t ≡ true) × (o ≡ Some x)
-cond_some true o x e = (refl, e)
-cond_some false o x e = absurd (none_some x e)
-
-pub cond_pick : {X : Type 0} (t : Bool) (o p : Option X) (x : X) → cond t o p ≡ Some x → ((t ≡ true) × (o ≡ Some x)) ⊎ (p ≡ Some x)
-cond_pick true o p x e = inl (refl, e)
-cond_pick false o p x e = inr e
-
-mapped_some : {X Y : Type 0} (f : X → Y) (o : Option X) (y : Y) → mapped f o ≡ Some y → (x : X) × (o ≡ Some x) × (f x ≡ y)
-mapped_some f None y e = absurd (none_some y e)
-mapped_some f (Some x) y e = (x, refl, cc)
-
-pub both_some : {X Y Z : Type 0} (f : X → Y → Z) (o : Option X) (p : Option Y) (z : Z) → both f o p ≡ Some z
-    → (x : X) × (y : Y) × (o ≡ Some x) × (p ≡ Some y) × (f x y ≡ z)
-both_some f None p z e = absurd (none_some z e)
-both_some f (Some x) None z e = absurd (none_some z e)
-both_some f (Some x) (Some y) z e = (x, y, refl, refl, cc)
+use Rattle.trace_lines.specs.Forms.{ranged, kernel_named, kernel_of, kernel_and_rest, argued, kernel_and, set_of, letter_form, command_form}
+use Rattle.trace_lines.proofs.Options.{cond_some, cond_pick, mapped_some}
 
 -- ---- a letter, a blank and the rest
 
@@ -45,8 +27,8 @@ there g c l =
 
 back : {X : Type 0} (g : ℕ → List ℕ → Option X) (s : List ℕ) (x : X) → after_blank g s ≡ Some x
     → (c : ℕ) × (l : List ℕ) × (s ≡ c ∷ 32 ∷ l) × (g c l ≡ Some x)
-back g [] x e = absurd (none_some x e)
-back g (c ∷ []) x e = absurd (none_some x e)
+back g [] x e = absurd (none-some x e)
+back g (c ∷ []) x e = absurd (none-some x e)
 back g (c ∷ b ∷ l) x e =
     let p = cond_some _ _ x e in (
       c,
@@ -70,21 +52,33 @@ kernel_here d Root e =
     (λ q. ap (λ d. d ∷ []) (eqb-true d 114 (cond_some _ _ Root q).0)) (cond_pick (eqb d 104) (Some Head) _ Root e)
 
 kernel_back : (s : List ℕ) (k : Kernel) → kernel_of s ≡ Some k → s ≡ kernel_name k
-kernel_back [] k e = absurd (none_some k e)
+kernel_back [] k e = absurd (none-some k e)
 kernel_back (d ∷ []) k e = kernel_here d k e
-kernel_back (d ∷ c ∷ s) k e = absurd (none_some k e)
+kernel_back (d ∷ c ∷ s) k e = absurd (none-some k e)
+
+-- a kernel named by a letter, and the rest
+abbrev first : ℕ → List ℕ → Option (Kernel × List ℕ)
+first d s = option_map (λ k. (k, s)) (kernel_named d)
 
 module _ {X Y : Type 0} (f : Kernel → X → Y) (read : List ℕ → Option X) where
   kernel_and_there : (k : Kernel) (l : List ℕ) (x : X) → read l ≡ Some x → kernel_and f read (kernel_name k ++ (32 ∷ l)) ≡ Some (f k x)
-  kernel_and_there Head l x e = there (λ d s. both f (kernel_of (d ∷ [])) (read s)) 104 l ∙ ap (both f (Some Head)) e
-  kernel_and_there Root l x e = there (λ d s. both f (kernel_of (d ∷ [])) (read s)) 114 l ∙ ap (both f (Some Root)) e
+  kernel_and_there Head l x e = ap (argued f read) (there first 104 l) ∙ ap (option_map (f Head)) e
+  kernel_and_there Root l x e = ap (argued f read) (there first 114 l) ∙ ap (option_map (f Root)) e
+
+  argued_some : (o : Option (Kernel × List ℕ)) (y : Y) → argued f read o ≡ Some y
+      → (k : Kernel) × (l : List ℕ) × (x : X) × (o ≡ Some (k, l)) × (read l ≡ Some x) × (f k x ≡ y)
+  argued_some None y e = absurd (none-some y e)
+  argued_some (Some p) y e = let q = mapped_some (f p.0) (read p.1) y e in (p.0, p.1, q.0, refl, q.1, q.2)
 
   kernel_and_back : (s : List ℕ) (y : Y) → kernel_and f read s ≡ Some y
       → (k : Kernel) × (l : List ℕ) × (x : X) × (read l ≡ Some x) × (s ≡ kernel_name k ++ (32 ∷ l)) × (f k x ≡ y)
   kernel_and_back s y e =
-      let p = back (λ d s. both f (kernel_of (d ∷ [])) (read s)) s y e in
-      let q = both_some f (kernel_of (p.0 ∷ [])) (read p.1) y p.3 in
-      (q.0, p.1, q.1, q.3, p.2 ∙ ap (λ t. t ++ (32 ∷ p.1)) (kernel_here p.0 q.0 q.2), q.4)
+      let a = argued_some (kernel_and_rest s) y e in
+      let p = back first s (a.0, a.1) a.3 in
+      let q = mapped_some (λ (k : Kernel). (k, p.1)) (kernel_named p.0) (a.0, a.1) p.3 in
+      let h : q.0 ≡ a.0 = ap (λ (t : Kernel × List ℕ). t.0) q.2 in
+      let t : p.1 ≡ a.1 = ap (λ (t : Kernel × List ℕ). t.1) q.2 in
+      (q.0, p.1, a.2, ap read t ∙ a.4, p.2 ∙ ap (λ t. t ++ (32 ∷ p.1)) (kernel_here p.0 q.0 q.1), ap (λ k. f k a.2) h ∙ a.5)
 
 -- ---- the commands after the start
 
@@ -92,23 +86,23 @@ set_back : (s : List ℕ) (l : LineSet) → set_of s ≡ Some l → numeral 16 1
 set_back s l e = let p = mapped_some _ (numeral 16 16 s) l e in p.1 ∙ ap (λ x. Some x.bits) p.2
 
 set_there : (s : List ℕ) (l : LineSet) → numeral 16 16 s ≡ Some l.bits → set_of s ≡ Some l
-set_there s l e = ap (mapped (λ n. record { bits = n })) e
+set_there s l e = ap (option_map (λ n. record { bits = n })) e
 
 pub command_there : (s : List ℕ) (c : Command) → CommandLine s c → command_form s ≡ Some c
-command_there s (Raise n) w = ap command_form w.2 ∙ there letter_form 105 w.0 ∙ ap (mapped Raise) w.1
+command_there s (Raise n) w = ap command_form w.2 ∙ there letter_form 105 w.0 ∙ ap (option_map Raise) w.1
 command_there s (MaskHardware lines) w =
-    ap command_form w.2 ∙ there letter_form 109 w.0 ∙ ap (mapped MaskHardware) (set_there w.0 lines w.1)
+    ap command_form w.2 ∙ there letter_form 109 w.0 ∙ ap (option_map MaskHardware) (set_there w.0 lines w.1)
 command_there s (Mask k lines) w =
     ap command_form w.2 ∙ there letter_form 107 (kernel_name k ++ (32 ∷ w.0))
     ∙ kernel_and_there Mask set_of k w.0 lines (set_there w.0 lines w.1)
-command_there s (Pump n) w = ap command_form w.2 ∙ there letter_form 112 w.0 ∙ ap (mapped Pump) w.1
-command_there s (Next k) w = ap command_form w ∙ there letter_form 110 (kernel_name k) ∙ ap (mapped Next) (kernel_there k)
-command_there s (Done k) w = ap command_form w ∙ there letter_form 100 (kernel_name k) ∙ ap (mapped Done) (kernel_there k)
-command_there s (Stall k) w = ap command_form w ∙ there letter_form 115 (kernel_name k) ∙ ap (mapped Stall) (kernel_there k)
-command_there s (Unstall k) w = ap command_form w ∙ there letter_form 117 (kernel_name k) ∙ ap (mapped Unstall) (kernel_there k)
+command_there s (Pump n) w = ap command_form w.2 ∙ there letter_form 112 w.0 ∙ ap (option_map Pump) w.1
+command_there s (Next k) w = ap command_form w ∙ there letter_form 110 (kernel_name k) ∙ ap (option_map Next) (kernel_there k)
+command_there s (Done k) w = ap command_form w ∙ there letter_form 100 (kernel_name k) ∙ ap (option_map Done) (kernel_there k)
+command_there s (Stall k) w = ap command_form w ∙ there letter_form 115 (kernel_name k) ∙ ap (option_map Stall) (kernel_there k)
+command_there s (Unstall k) w = ap command_form w ∙ there letter_form 117 (kernel_name k) ∙ ap (option_map Unstall) (kernel_there k)
 command_there s (SetLevel k n) w =
     ap command_form w.2 ∙ there letter_form 118 (kernel_name k ++ (32 ∷ w.0)) ∙ kernel_and_there SetLevel (numeral 10 3) k w.0 n w.1
-command_there s (RestoreLevel k) w = ap command_form w ∙ there letter_form 120 (kernel_name k) ∙ ap (mapped RestoreLevel) (kernel_there k)
+command_there s (RestoreLevel k) w = ap command_form w ∙ there letter_form 120 (kernel_name k) ∙ ap (option_map RestoreLevel) (kernel_there k)
 
 -- a letter found is the letter of the line
 module _ (c : ℕ) (l : List ℕ) (x : Command) where
@@ -117,19 +111,19 @@ module _ (c : ℕ) (l : List ℕ) (x : Command) where
 
   -- letters with a kernel alone
   to_kernel : (d : ℕ) (f : Kernel → Command) → ((k : Kernel) → CommandLine (c ∷ 32 ∷ l) (f k) ≡ (c ∷ 32 ∷ l ≡ d ∷ 32 ∷ kernel_name k))
-      → (eqb c d ≡ true) × (mapped f (kernel_of l) ≡ Some x) → CommandLine (c ∷ 32 ∷ l) x
+      → (eqb c d ≡ true) × (option_map f (kernel_of l) ≡ Some x) → CommandLine (c ∷ 32 ∷ l) x
   to_kernel d f row p =
       let q = mapped_some f (kernel_of l) x p.1 in
       let e : c ∷ 32 ∷ l ≡ d ∷ 32 ∷ kernel_name q.0 = lettered d p.0 ∙ ap (λ t. d ∷ 32 ∷ t) (kernel_back l q.0 q.1) in
       subst (CommandLine (c ∷ 32 ∷ l)) q.2 (subst (λ T. T) (sym (row q.0)) e)
 
-  to_raise : (eqb c 105 ≡ true) × (mapped Raise (numeral 10 3 l) ≡ Some x) → CommandLine (c ∷ 32 ∷ l) x
+  to_raise : (eqb c 105 ≡ true) × (option_map Raise (numeral 10 3 l) ≡ Some x) → CommandLine (c ∷ 32 ∷ l) x
   to_raise p = let q = mapped_some Raise (numeral 10 3 l) x p.1 in subst (CommandLine (c ∷ 32 ∷ l)) q.2 (l, q.1, lettered 105 p.0)
 
-  to_pump : (eqb c 112 ≡ true) × (mapped Pump (numeral 10 3 l) ≡ Some x) → CommandLine (c ∷ 32 ∷ l) x
+  to_pump : (eqb c 112 ≡ true) × (option_map Pump (numeral 10 3 l) ≡ Some x) → CommandLine (c ∷ 32 ∷ l) x
   to_pump p = let q = mapped_some Pump (numeral 10 3 l) x p.1 in subst (CommandLine (c ∷ 32 ∷ l)) q.2 (l, q.1, lettered 112 p.0)
 
-  to_mask_hardware : (eqb c 109 ≡ true) × (mapped MaskHardware (set_of l) ≡ Some x) → CommandLine (c ∷ 32 ∷ l) x
+  to_mask_hardware : (eqb c 109 ≡ true) × (option_map MaskHardware (set_of l) ≡ Some x) → CommandLine (c ∷ 32 ∷ l) x
   to_mask_hardware p =
       let q = mapped_some MaskHardware (set_of l) x p.1 in
       subst (CommandLine (c ∷ 32 ∷ l)) q.2 (l, set_back l q.0 q.1, lettered 109 p.0)
@@ -168,7 +162,7 @@ command_back s c e =
 module _ {F : Type 0} (Line : List ℕ → F → Type 0) (in_range : F → Bool) (form : List ℕ → Option F) (to : (s : List ℕ) (f : F) → Line s f → form s ≡ Some f)
     (from : (s : List ℕ) (f : F) → form s ≡ Some f → Line s f) where
   reads_form : (s : List ℕ) → length s ≤ 80 → (o : Option F) → form s ≡ o → Reads Line in_range (λ f g. g ≡ f) s (ranged in_range o)
-  reads_form s h None e = inr (λ f w. none_some f (sym e ∙ to s f w))
+  reads_form s h None e = inr (λ f w. none-some f (sym e ∙ to s f w))
   reads_form s h (Some f) e =
       cond_both (in_range f) (Ok f) (Err Range) (Reads Line in_range (λ f g. g ≡ f) s)
       (λ t. (h, (f, from s f e, t, refl)))

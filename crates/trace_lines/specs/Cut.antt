@@ -1,6 +1,5 @@
 -- A text cut into lines at its line feeds.
-use Rattle.std.specs.Prelude.{◌≡◌, ℕ, ◌+◌, ◌<◌, Bool, cond, not, List, [], ◌∷◌, ◌++◌, length, drop, ◌==◌}
-use Rattle.std.specs.List.{prefix_len}
+use Rattle.std.specs.Prelude.{◌≡◌, ℕ, ◌+◌, ◌<◌, cond, List, [], ◌∷◌, ◌++◌, length, drop, ◌==◌}
 
 -- a byte put before the first of some lines; where there is none, it begins one
 abbrev pub before_first : ℕ → List (List ℕ) → List (List ℕ)
@@ -65,10 +64,3 @@ pub record FirstWholeLine (s line rest : List ℕ) : Type 0 where
 pub record NoWholeLine (s : List ℕ) : Type 0 where
   pub lines : whole_lines s ≡ []
   pub begins : begun s ≡ s
-
-abbrev pub ordinary : ℕ → Bool
-ordinary c = not (c == 10)
-
--- how many bytes stand before the first line feed, or in all
-abbrev pub line_length : List ℕ → ℕ
-line_length s = prefix_len ordinary s

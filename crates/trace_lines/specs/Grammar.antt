@@ -78,10 +78,9 @@ command_in_range (RestoreLevel k) = true
 
 -- F adds 1 if the head handles the line, 2 if the head passes it on, 4 if the root handles it
 abbrev pub SetupSays : SetupForm → Setup → Type 0
-SetupSays (route n f) (Route line head_handles head_passes root_handles) =
-    (line ≡ n) × (f ≡ cond head_handles 1 0 + cond head_passes 2 0 + cond root_handles 4 0)
+SetupSays (route n f) (Route line r) = (line ≡ n) × (f ≡ cond r.head_handles 1 0 + cond r.head_passes 2 0 + cond r.root_handles 4 0)
 SetupSays (route n f) Start = ⊥
-SetupSays start (Route line head_handles head_passes root_handles) = ⊥
+SetupSays start (Route line r) = ⊥
 SetupSays start Start = Unit {0}
 
 abbrev pub CommandSays : Command → Command → Type 0

@@ -5,6 +5,10 @@ use Rattle.std.specs.Prelude.{ℕ, ◌+◌, ◌-◌, ◌*◌, cond, ◌&&◌, Li
 abbrev pub digit_value : ℕ → ℕ
 digit_value c = cond (nat_le 48 c && nat_le c 57) (c - 48) (cond (nat_le 97 c && nat_le c 102) (c - 87) 16)
 
+-- the value of a digit of a base; none of any other byte
+abbrev pub digit_of : ℕ → ℕ → Option ℕ
+digit_of base c = cond (nat_lt (digit_value c) base) (Some (digit_value c)) None
+
 -- the number that digits of a base write after the number n; none where a byte is no digit
 abbrev pub number_after : ℕ → ℕ → List ℕ → Option ℕ
 number_after base n [] = Some n

@@ -1,31 +1,39 @@
 // What the lines of a trace say.
+ghost use Rattle.std.specs.Prelude.{◌≡◌};
+ghost use Rattle.trace_lines.specs.Faults.{text_fault_number};
+
 use lines::LineSet;
 use model::Kernel;
+use routes::Route;
 
-// Why a line of text is refused.
-#[derive(Clone, Copy)]
+// Why a line of text is refused. The discriminants are the numbers by which refusals are listed.
+#[derive(Clone, Copy, Debug, PartialEq, Eq)]
 pub enum TextFault {
     // the line is too long, or of another form than the commands
-    Form,
+    Form = 8,
     // a number of it is out of range
-    Range,
+    Range = 9,
+}
+
+impl TextFault {
+    // The number of the refusal.
+    pub fn number(self) -> u8
+        ensures { result ≡ text_fault_number self }
+    {
+        self as u8
+    }
 }
 
 // The commands before the start.
-#[derive(Clone, Copy)]
+#[derive(Clone, Copy, Debug, PartialEq, Eq)]
 pub enum Setup {
     // who handles the line, and whether the head passes it on
-    Route {
-        line: u8,
-        head_handles: bool,
-        head_passes: bool,
-        root_handles: bool,
-    },
+    Route { line: u8, route: Route },
     Start,
 }
 
 // The commands after the start.
-#[derive(Clone, Copy)]
+#[derive(Clone, Copy, Debug, PartialEq, Eq)]
 pub enum Command {
     Raise(u8),
     MaskHardware(LineSet),

@@ -3,7 +3,6 @@
 
 mod commands;
 mod cut;
-mod number;
 mod numerals;
 mod read;
 mod shown;

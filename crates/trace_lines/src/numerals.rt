@@ -1,31 +1,33 @@
 // Numbers as a trace writes them.
 ghost use Rattle.std.specs.Prelude.{◌≡◌, ℕ, ◌≤◌};
-ghost use Rattle.trace_lines.specs.Numerals.{digit_value, numeral};
+ghost use Rattle.trace_lines.specs.Numerals.{digit_of, numeral};
 
-fn digit(b: u8) -> u64
-    ensures { result ≡ digit_value b }
+// The value of a digit of the base, '0' to '9' and 'a' to 'f'; `char::to_digit` takes capitals too.
+fn digit(base: u64, b: u8) -> Option<u64>
+    requires { base ≤ 16 }
+    ensures { result ≡ digit_of base b }
 {
-    match b {
+    let d = match b {
         b'0'..=b'9' => (b - b'0') as u64,
         b'a'..=b'f' => (b - b'a') as u64 + 10,
-        _ => 16,
-    }
+        _ => return None,
+    };
+    (d < base).then_some(d)
 }
 
 // The number that one to `most` digits of a base write, if the text is that.
+// A loop, as the number stays below 2 ^ 64 by how many digits came before, which a closure of `try_fold` cannot say.
 pub(crate) fn read_numeral(base: u64, most: usize, s: &[u8]) -> Option<u64>
-    requires { (base ≤ 16) × (most ≤ 16) }
+    requires base { base ≤ 16 }
+    requires most { most ≤ 16 }
     ensures { result ≡ numeral base most s.now }
 {
-    if s.len() == 0 || s.len() > most {
+    if s.is_empty() || s.len() > most {
         return None;
     }
     let mut n: u64 = 0;
     for b in s {
-        let d = digit(*b);
-        if d >= base {
-            return None;
-        }
+        let d = digit(base, *b)?;
         n = n * base + d;
     }
     Some(n)

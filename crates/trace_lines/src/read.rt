@@ -1,118 +1,112 @@
 // Reading a line: a letter and its arguments, each after one blank.
-ghost use Rattle.std.specs.Prelude.{◌≡◌, ℕ, ◌+◌, ◌-◌, ◌<◌, ◌≤◌, Bool, true, false, length, if◌then◌else◌, Some, Ok, Err, nat_le, nat_lt};
+ghost use Rattle.std.specs.Prelude.{◌≡◌, ℕ, ◌+◌, ◌-◌, ◌<◌, ◌≤◌, Bool, true, false, length, if◌then◌else◌, Some, Ok, Err, nat_le, MatchResult};
+ghost use Rattle.std.specs.Option.{ok_or};
 ghost use Rattle.trace_lines.specs.Grammar.{route, setup_in_range, command_in_range, ReadsSetup, ReadsCommand};
 ghost use Rattle.trace_lines.specs.Numerals.{numeral};
-ghost use Rattle.trace_lines.specs.Forms.{formed, ranged, mapped, said, kernel_of, kernel_and, set_of, letter_form, command_form, route_form, arguments_form, setup_form};
+ghost use Rattle.trace_lines.specs.Forms.{ranged, said, kernel_named, kernel_of, kernel_and_rest, kernel_and, set_of, letter_form, command_form, route_form, setup_form};
 
 use crate::numerals::read_numeral;
 use crate::{Command, Setup, TextFault};
 use lines::LineSet;
 use model::Kernel;
+use routes::Route;
 
-// A number of one to three digits.
-fn number(s: &[u8]) -> Result<u64, TextFault>
-    ensures { result ≡ formed (numeral 10 3 s.now) }
+// How many bytes a line has at most.
+const LONGEST: usize = 80;
+
+// A number of one to `most` digits.
+fn number(most: usize, s: &[u8]) -> Result<u64, TextFault>
+    requires { most ≤ 16 }
+    ensures { result ≡ ok_or (numeral 10 most s.now) TextFault.Form }
 {
-    match read_numeral(10, 3, s) {
-        Some(n) => Ok(n),
-        None => Err(TextFault::Form),
-    }
+    read_numeral(10, most, s).ok_or(TextFault::Form)
 }
 
 // A set of one to sixteen hexadecimal digits.
 fn set(s: &[u8]) -> Result<LineSet, TextFault>
-    ensures { result ≡ formed (set_of s.now) }
+    ensures { result ≡ ok_or (set_of s.now) TextFault.Form }
 {
-    match read_numeral(16, 16, s) {
-        Some(n) => Ok(LineSet::new(n)),
-        None => Err(TextFault::Form),
-    }
+    read_numeral(16, 16, s)
+        .map(LineSet::new)
+        .ok_or(TextFault::Form)
 }
 
 // A number of at most 255.
-fn byte(n: u64) -> Result<u8, TextFault>
+fn in_byte(n: u64) -> Result<u8, TextFault>
     ensures { result ≡ (if nat_le n 255 then Ok n else Err TextFault.Range) }
 {
-    if n > 255 {
-        return Err(TextFault::Range);
-    }
-    Ok(n as u8)
+    u8::try_from(n).map_err(|_| TextFault::Range)
 }
 
-// The kernel that a letter names.
-fn kernel(s: &[u8]) -> Result<Kernel, TextFault>
-    ensures { result ≡ formed (kernel_of s.now) }
+// A number of one to three digits, of at most 255.
+fn byte(s: &[u8]) -> Result<u8, TextFault>
+    ensures { result ≡ ranged (λ n. nat_le n 255) (numeral 10 3 s.now) }
 {
-    match s {
-        [b'h'] => Ok(Kernel::Head),
-        [b'r'] => Ok(Kernel::Root),
+    in_byte(number(3, s)?)
+}
+
+// The kernel that a letter names. No TryFrom, since both types are other crates'.
+fn kernel_named(letter: u8) -> Result<Kernel, TextFault>
+    ensures { result ≡ ok_or (kernel_named letter) TextFault.Form }
+{
+    match letter {
+        b'h' => Ok(Kernel::Head),
+        b'r' => Ok(Kernel::Root),
         _ => Err(TextFault::Form),
     }
 }
 
-// i L
-fn raise(s: &[u8]) -> Result<Command, TextFault>
-    ensures { result ≡ ranged command_in_range (mapped Command.Raise (numeral 10 3 s.now)) }
+// A kernel alone.
+fn kernel(s: &[u8]) -> Result<Kernel, TextFault>
+    ensures { result ≡ ok_or (kernel_of s.now) TextFault.Form }
 {
-    let n = number(s)?;
-    Ok(Command::Raise(byte(n)?))
+    match s {
+        [letter] => kernel_named(*letter),
+        _ => Err(TextFault::Form),
+    }
 }
 
-// p N
-fn pump(s: &[u8]) -> Result<Command, TextFault>
-    ensures { result ≡ ranged command_in_range (mapped Command.Pump (numeral 10 3 s.now)) }
+// A kernel, and what stands after it and a blank.
+fn kernel_and_rest(s: &[u8]) -> Result<(Kernel, &[u8]), TextFault>
+    ensures { MatchResult result (λ p. kernel_and_rest s.now ≡ Some (p.0, p.1.now)) (λ e. (kernel_and_rest s.now ≡ None) × (e ≡ TextFault.Form)) }
 {
-    let n = number(s)?;
-    Ok(Command::Pump(byte(n)?))
-}
-
-// m S
-fn mask_hardware(s: &[u8]) -> Result<Command, TextFault>
-    ensures { result ≡ ranged command_in_range (mapped Command.MaskHardware (set_of s.now)) }
-{
-    let lines = set(s)?;
-    Ok(Command::MaskHardware(lines))
+    match s {
+        [letter, b' ', rest @ ..] => Ok((kernel_named(*letter)?, rest)),
+        _ => Err(TextFault::Form),
+    }
 }
 
 // k D S
 fn mask(s: &[u8]) -> Result<Command, TextFault>
     ensures { result ≡ ranged command_in_range (kernel_and Command.Mask set_of s.now) }
 {
-    let [d, b' ', rest @ ..] = s else {
-        return Err(TextFault::Form);
-    };
-    let k = kernel(&[*d])?;
-    let lines = set(rest)?;
-    Ok(Command::Mask(k, lines))
+    let (kernel, rest) = kernel_and_rest(s)?;
+    Ok(Command::Mask(kernel, set(rest)?))
 }
 
 // v D C
 fn set_level(s: &[u8]) -> Result<Command, TextFault>
     ensures { result ≡ ranged command_in_range (kernel_and Command.SetLevel (numeral 10 3) s.now) }
 {
-    let [d, b' ', rest @ ..] = s else {
-        return Err(TextFault::Form);
-    };
-    let k = kernel(&[*d])?;
-    let n = number(rest)?;
-    Ok(Command::SetLevel(k, byte(n)?))
+    let (kernel, rest) = kernel_and_rest(s)?;
+    Ok(Command::SetLevel(kernel, byte(rest)?))
 }
 
 // The commands after the start, by their letters.
-fn command(letter: char, rest: &[u8]) -> Result<Command, TextFault>
+fn command(letter: u8, rest: &[u8]) -> Result<Command, TextFault>
     ensures { result ≡ ranged command_in_range (letter_form letter rest.now) }
 {
     match letter {
-        'i' => raise(rest),
-        'm' => mask_hardware(rest),
-        'k' => mask(rest),
-        'p' => pump(rest),
-        'n' => Ok(Command::Next(kernel(rest)?)),
-        'd' => Ok(Command::Done(kernel(rest)?)),
-        's' => Ok(Command::Stall(kernel(rest)?)),
-        'u' => Ok(Command::Unstall(kernel(rest)?)),
-        'v' => set_level(rest),
-        'x' => Ok(Command::RestoreLevel(kernel(rest)?)),
+        b'i' => Ok(Command::Raise(byte(rest)?)),
+        b'm' => Ok(Command::MaskHardware(set(rest)?)),
+        b'k' => mask(rest),
+        b'p' => Ok(Command::Pump(byte(rest)?)),
+        b'n' => Ok(Command::Next(kernel(rest)?)),
+        b'd' => Ok(Command::Done(kernel(rest)?)),
+        b's' => Ok(Command::Stall(kernel(rest)?)),
+        b'u' => Ok(Command::Unstall(kernel(rest)?)),
+        b'v' => set_level(rest),
+        b'x' => Ok(Command::RestoreLevel(kernel(rest)?)),
         _ => Err(TextFault::Form),
     }
 }
@@ -121,33 +115,26 @@ fn command_line(line: &[u8]) -> Result<Command, TextFault>
     ensures { result ≡ ranged command_in_range (command_form line.now) }
 {
     match line {
-        [letter, b' ', rest @ ..] => command(char::from(*letter), rest),
+        [letter, b' ', rest @ ..] => command(*letter, rest),
         _ => Err(TextFault::Form),
     }
 }
 
-// One digit.
-fn flags(s: &[u8]) -> Result<u64, TextFault>
-    ensures { result ≡ formed (numeral 10 1 s.now) }
+// The route that two numbers say, each in its range; a pair of numbers has no conversion of its own to give.
+fn route_of(line: u64, flags: u64) -> Result<Setup, TextFault>
+    ensures { result ≡ said (ranged setup_in_range (Some (route line flags))) }
 {
-    match read_numeral(10, 1, s) {
-        Some(n) => Ok(n),
-        None => Err(TextFault::Form),
-    }
-}
-
-// The route that two numbers say.
-fn route_of(n: u64, f: u64) -> Result<Setup, TextFault>
-    ensures { result ≡ said (ranged setup_in_range (Some (route n f))) }
-{
-    if n > 255 || f > 7 {
+    let line = in_byte(line)?;
+    if flags > 7 {
         return Err(TextFault::Range);
     }
     Ok(Setup::Route {
-        line: n as u8,
-        head_handles: f % 2 == 1,
-        head_passes: f / 2 % 2 == 1,
-        root_handles: f / 4 % 2 == 1,
+        line,
+        route: Route {
+            head_handles: flags % 2 == 1,
+            head_passes: flags / 2 % 2 == 1,
+            root_handles: flags / 4 % 2 == 1,
+        },
     })
 }
 
@@ -155,48 +142,39 @@ fn route_of(n: u64, f: u64) -> Result<Setup, TextFault>
 fn route(s: &[u8]) -> Result<Setup, TextFault>
     ensures { result ≡ said (ranged setup_in_range (route_form s.now)) }
 {
-    let [line @ .., b' ', flag] = s else {
+    let [line @ .., b' ', digit] = s else {
         return Err(TextFault::Form);
     };
-    let n = number(line)?;
-    let f = flags(&[*flag])?;
-    route_of(n, f)
-}
-
-// The commands before the start, by their letters; the arguments come with the blank before them.
-fn setup(letter: char, args: &[u8]) -> Result<Setup, TextFault>
-    ensures { result ≡ said (ranged setup_in_range (arguments_form letter args.now)) }
-{
-    match (letter, args) {
-        ('a', [b' ', rest @ ..]) => route(rest),
-        ('b', []) => Ok(Setup::Start),
-        _ => Err(TextFault::Form),
-    }
+    let n = number(3, line)?;
+    let flags = number(1, &[*digit])?;
+    route_of(n, flags)
 }
 
 fn setup_line(line: &[u8]) -> Result<Setup, TextFault>
     ensures { result ≡ said (ranged setup_in_range (setup_form line.now)) }
 {
     match line {
-        [letter, args @ ..] => setup(char::from(*letter), args),
-        [] => Err(TextFault::Form),
+        [b'a', b' ', rest @ ..] => route(rest),
+        [b'b'] => Ok(Setup::Start),
+        _ => Err(TextFault::Form),
     }
 }
 
-// Whether a line has more than 80 bytes.
-fn is_long(line: &[u8]) -> bool
-    ensures { result ≡ nat_lt 80 (length line.now) }
+// A line that is too long has no form.
+fn check_length(line: &[u8]) -> Result<(), TextFault>
+    ensures { MatchResult result (λ _. length line.now ≤ 80) (λ e. (80 < length line.now) × (e ≡ TextFault.Form)) }
 {
-    line.len() > 80
+    if line.len() > LONGEST {
+        return Err(TextFault::Form);
+    }
+    Ok(())
 }
 
 // What a line before the start says.
 pub fn read_setup(line: &[u8]) -> Result<Setup, TextFault>
     ensures { ReadsSetup line.now result }
 {
-    if is_long(line) {
-        return Err(TextFault::Form);
-    }
+    check_length(line)?;
     setup_line(line)
 }
 
@@ -204,8 +182,6 @@ pub fn read_setup(line: &[u8]) -> Result<Setup, TextFault>
 pub fn read_command(line: &[u8]) -> Result<Command, TextFault>
     ensures { ReadsCommand line.now result }
 {
-    if is_long(line) {
-        return Err(TextFault::Form);
-    }
+    check_length(line)?;
     command_line(line)
 }

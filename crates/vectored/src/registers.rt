@@ -16,7 +16,7 @@ use lines::LineSet;
 pub type Vectored = Bank<VectoredRegisters>;
 
 // A set of lines for each register.
-#[derive(Clone, Copy)]
+#[derive(Clone, Copy, Debug, PartialEq, Eq)]
 pub struct VectoredRegisters {
     pending: LineSet,
     masked: LineSet,
@@ -36,6 +36,7 @@ impl VectoredRegisters {
     }
 
     // With the line gone from pending into service.
+    #[tactic(auto, using(bank::proofs::AllLines::has_every, lines::proofs::Words::out_past_word))]
     fn acknowledging(self, line: u8) -> Self
         ensures { registers_hold result ≡ acknowledged all_lines (registers_hold self) line }
     {
@@ -94,10 +95,12 @@ impl Registers for VectoredRegisters {
         self.in_service
     }
 
+    #[tactic(auto, using(bank::proofs::AllLines::has_every))]
     fn latch(&mut self, line: u8) {
         self.pending = self.pending.with(line);
     }
 
+    #[tactic(auto, using(lines::proofs::Words::all_word))]
     fn write_mask(&mut self, set: LineSet) {
         self.masked = set;
     }

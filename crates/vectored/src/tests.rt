@@ -1,5 +1,5 @@
 use crate::Vectored;
-use controller::Controller;
+use controller::{Controller, ControllerFault};
 
 #[test]
 fn a_line_in_service_holds_off_its_class(rt: HostRuntime) {
@@ -15,7 +15,10 @@ fn a_line_in_service_holds_off_its_class(rt: HostRuntime) {
 #[test]
 fn vectors_from_32_on(rt: HostRuntime) {
     let controller = Vectored::new();
-    assert_eq!(rt; controller.registers().vector(0).ok(), Some(32));
-    assert_eq!(rt; controller.registers().vector(63).ok(), Some(95));
-    assert_eq!(rt; controller.registers().vector(64).ok(), None);
+    assert_eq!(rt; controller.registers().vector(0), Ok(32));
+    assert_eq!(rt; controller.registers().vector(63), Ok(95));
+    assert_eq!(rt;
+        controller.registers().vector(64),
+        Err(ControllerFault::NoSuchLine)
+    );
 }

@@ -11,7 +11,6 @@ returns g c =
     let ns = vec_items c.serve_each.new.served in
     let s = subst (λ z. Serves z ns w) c.raise_each.ensures.leaves c.serve_each.ensures.leaves in
     record {
-      keeps = c.serve_each.ensures.keeps;
       fixed = c.serve_each.ensures.fixed ∙ c.raise_each.ensures.fixed;
       led = record { told = c.raise_each.ensures.told; serves = s; from_fresh = λ e. serves_fresh v burst e ns w s };
     }

@@ -4,8 +4,7 @@ use Rattle.service.proofs.serve_each.Given as goal
 
 abbrev pub invariant-loop-line : goal.invariant-loop-line
 invariant-loop-line g l =
-    g.C.Controller.consistent l.controller
-    × (g.C.Controller.ranks l.controller ≡ g.C.Controller.ranks l.initial.controller)
+    (g.C.Controller.ranks l.controller ≡ g.C.Controller.ranks l.initial.controller)
     × (64 ≤ vec_capacity l.served)
     × Progress (g.C.Controller.view l.initial.controller) (g.C.Controller.view l.controller) (vec_items l.served)
 

@@ -8,7 +8,4 @@ pub returns-in-Start : goal.returns-in-Start
 returns-in-Start g c =
     let m = model_of g.H.Controller g.A.Stage g.B.Stage c.args.machine in
     let m' = model_of g.H.Controller g.A.Stage g.B.Stage c.start.result in
-    record {
-      keeps = c.start.ensures.keeps;
-      sets = subst (λ x. SetsUp m x (Ok Accepted) true m') (sym c.in-Start.is) (refl, refl, c.start.ensures.same);
-    }
+    subst (λ x. SetsUp m x (Ok Accepted) true m') (sym c.in-Start.is) (refl, refl, c.start.ensures.same)

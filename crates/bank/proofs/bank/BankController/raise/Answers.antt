@@ -7,6 +7,10 @@ use Rattle.bank.specs.Contents.{bank_view}
 use Rattle.bank.proofs.Picking.{raises}
 use Rattle.bank.proofs.bank.BankController.raise.Goals as goal
 
+pub invariant_of-self : goal.invariant_of-self
+invariant_of-self g c =
+    record { sound = raises_sound _ c.args.self.now.sound _ (Ok _) _ (raises _ _ _ _ _ (sym c.if-not-has_line.ensures) c.latch.ensures) }
+
 pub returns : goal.returns
 returns g c =
     let w = g.R.Registers.wired in
@@ -18,4 +22,4 @@ returns g c =
     c.raised.ensures ∙ ap (λ b. cond b Merged New) (c.contains-before.ensures ∙ ap (λ s. has s line) c.pending.ensures) in
     let h : Raises (bank_view w o was) line (Ok c.raised.result) (bank_view w o is) =
     subst (λ a. Raises (bank_view w o was) line (Ok a) (bank_view w o is)) (sym e) (raises w o was is line (sym c.if-not-has_line.ensures) c.latch.ensures) in
-    record { keeps = raises_sound _ c.requires line (Ok c.raised.result) _ h; fixed = refl; leaves = h }
+    record { fixed = refl; leaves = h }

@@ -1,48 +1,28 @@
-use Rattle.std.proofs.Common.{sym, refl, subst₂}
-use Rattle.model.specs.declared.calls.Call.TheVariants.{To as to_call}
-use Rattle.model.specs.declared.calls.StageCall.TheVariants.{Done as done_call}
-use Rattle.model.specs.Machine.{Step}
-use Rattle.machine.specs.Whole.{model_of}
-use Rattle.machine.specs.Answering.{done_answer}
-use Rattle.machine.proofs.Changed.{carried}
+use Rattle.std.proofs.Common.{refl}
+use Rattle.controller.specs.Calls.{Ends}
+use Rattle.model.specs.declared.calls.Answer.TheVariants.{Ended as ended}
+use Rattle.model.specs.declared.fault.Fault.TheVariants.{Controller}
+use Rattle.model.specs.Stage.{Through}
+use Rattle.model.specs.Machine.{done_says}
+use Rattle.machine.proofs.Changed.{head_well, head_ill, root_well, root_ill}
 use Rattle.machine.proofs.machine.Machine.done.Goals as goal
 
-pub returns-in_err-line-in-Head : goal.returns-in_err-line-in-Head
-returns-in_err-line-in-Head g c =
-    let m = model_of g.H.Controller g.A.Stage g.B.Stage c.args.self.now in
-    let n = model_of g.H.Controller g.A.Stage g.B.Stage c.done_at_head.new.self in
-    let e = c.in_err-line-in-Head.ensures in
-    record {
-      keeps = e.keeps;
-      steps = subst₂ (λ k x. Step m (to_call k (done_call)) x n) (sym c.in-Head.is) (sym (carried done_answer c.from_residual.result _ c.from_residual.ensures.1)) e.steps;
-    }
+pub returns-in_ok-end_at-in-Head : goal.returns-in_ok-end_at-in-Head
+returns-in_ok-end_at-in-Head g c =
+    let s = c.args.self.now in
+    head_well ended Controller done_says (λ j x. refl) (λ j e. refl) (Through Ends) (g.H.Controller.view s.hardware) (g.A.Stage.model s.head) (g.B.Stage.model s.root) _ c.args.kernel c.in-Head.is (g.A.Stage.model c.end_at.new.stage) _ c.in_ok-end_at-in-Head.ensures
 
-pub returns-in_ok-line-in-Head : goal.returns-in_ok-line-in-Head
-returns-in_ok-line-in-Head g c =
-    let m = model_of g.H.Controller g.A.Stage g.B.Stage c.args.self.now in
-    let n = model_of g.H.Controller g.A.Stage g.B.Stage c.done_at_head.new.self in
-    let e = c.in_ok-line-in-Head.ensures in
-    record {
-      keeps = e.keeps;
-      steps = subst₂ (λ k x. Step m (to_call k (done_call)) x n) (sym c.in-Head.is) refl e.steps;
-    }
+pub returns-in_err-end_at-in-Head : goal.returns-in_err-end_at-in-Head
+returns-in_err-end_at-in-Head g c =
+    let s = c.args.self.now in
+    head_ill ended Controller done_says (λ j x. refl) (λ j e. refl) (Through Ends) (g.H.Controller.view s.hardware) (g.A.Stage.model s.head) (g.B.Stage.model s.root) _ c.args.kernel c.in-Head.is (g.A.Stage.model c.end_at.new.stage) _ c.from_residual.result c.in_err-end_at-in-Head.ensures c.from_residual.ensures.1
 
-pub returns-in_err-line-in-Root : goal.returns-in_err-line-in-Root
-returns-in_err-line-in-Root g c =
-    let m = model_of g.H.Controller g.A.Stage g.B.Stage c.args.self.now in
-    let n = model_of g.H.Controller g.A.Stage g.B.Stage c.done_at_root.new.self in
-    let e = c.in_err-line-in-Root.ensures in
-    record {
-      keeps = e.keeps;
-      steps = subst₂ (λ k x. Step m (to_call k (done_call)) x n) (sym c.in-Root.is) (sym (carried done_answer c.from_residual-in_err-line-in-Root.result _ c.from_residual-in_err-line-in-Root.ensures.1)) e.steps;
-    }
+pub returns-in_ok-end_at-in-Root : goal.returns-in_ok-end_at-in-Root
+returns-in_ok-end_at-in-Root g c =
+    let s = c.args.self.now in
+    root_well ended Controller done_says (λ j x. refl) (λ j e. refl) (Through Ends) (g.H.Controller.view s.hardware) (g.A.Stage.model s.head) (g.B.Stage.model s.root) _ c.args.kernel c.in-Root.is (g.B.Stage.model c.end_at-in-Root.new.stage) _ c.in_ok-end_at-in-Root.ensures
 
-pub returns-in_ok-line-in-Root : goal.returns-in_ok-line-in-Root
-returns-in_ok-line-in-Root g c =
-    let m = model_of g.H.Controller g.A.Stage g.B.Stage c.args.self.now in
-    let n = model_of g.H.Controller g.A.Stage g.B.Stage c.done_at_root.new.self in
-    let e = c.in_ok-line-in-Root.ensures in
-    record {
-      keeps = e.keeps;
-      steps = subst₂ (λ k x. Step m (to_call k (done_call)) x n) (sym c.in-Root.is) refl e.steps;
-    }
+pub returns-in_err-end_at-in-Root : goal.returns-in_err-end_at-in-Root
+returns-in_err-end_at-in-Root g c =
+    let s = c.args.self.now in
+    root_ill ended Controller done_says (λ j x. refl) (λ j e. refl) (Through Ends) (g.H.Controller.view s.hardware) (g.A.Stage.model s.head) (g.B.Stage.model s.root) _ c.args.kernel c.in-Root.is (g.B.Stage.model c.end_at-in-Root.new.stage) _ c.from_residual-in_err-end_at-in-Root.result c.in_err-end_at-in-Root.ensures c.from_residual-in_err-end_at-in-Root.ensures.1

@@ -1,15 +1,18 @@
-use Rattle.std.proofs.Common.{vec_items, refl}
-use Rattle.trace.specs.Lines.{levels_in}
+use Rattle.std.proofs.Common.{length, vec_items, sym, refl}
+use Rattle.std.proofs.lemmas.Bool.{eqb-true, eqb-false}
 use Rattle.trace.specs.Sessions.{has_started}
 use Rattle.playback.specs.States.{state}
-use Rattle.playback.proofs.Looping.{plays_no_last}
+use Rattle.playback.proofs.Looping.{plays_no_last, plays_a_last}
 use Rattle.playback.proofs.playback.Playback.play_last.Goals as goal
 
-pub returns-then-begun-eq0 : goal.returns-then-begun-eq0
-returns-then-begun-eq0 c =
-    let x = levels_in c.args.head.now.places.now c.args.head.now.used in
-    let y = levels_in c.args.root.now.places.now c.args.root.now.used in
+pub returns-then-is_empty : goal.returns-then-is_empty
+returns-then-is_empty c =
     record {
       lent = (refl, refl);
-      plays = plays_no_last (has_started c.args.self.session) (state c.args.self.session x y) c.args.begun.now (vec_items c.args.listing.now) c.if-begun-eq0.true;
+      plays = plays_no_last (has_started c.args.self.session) (state c.args.self.session c.args.saved.now) c.args.begun.now (vec_items c.args.listing.now) (eqb-true (length c.args.begun.now) 0 (sym (c.if-is_empty.ensures)));
     }
+
+pub returns-clause-plays : goal.returns-clause-plays
+returns-clause-plays c =
+    plays_a_last c.play_line.result (λ p. has_started p.session) (λ p. state p.session c.play_line.new.saved) (has_started c.args.self.session) (state c.args.self.session c.args.saved.now)
+    c.args.begun.now (vec_items c.args.listing.now) (vec_items c.play_line.new.listing) (eqb-false (length c.args.begun.now) 0 (sym c.if-is_empty.ensures)) c.play_line.ensures.plays

@@ -1,6 +1,5 @@
 use Rattle.std.proofs.Common.{◌≡◌, ◌-◌, ◌≤◌, ◌++◌, length, take, replicate, vec_items, ap, ◌∙◌, arith}
 use native.Mathlib.Nat.{sub-zero}
-use Rattle.trace.specs.Lines.{levels_in}
 use Rattle.trace.specs.Sessions.{has_started}
 use Rattle.playback.specs.States.{state}
 use Rattle.playback.proofs.Playing.{plays_one, steps_lists}
@@ -9,11 +8,7 @@ use Rattle.playback.proofs.playback.Playback.play_line.Goals as goal
 pub slice_bounds-extend_from_slice-end : goal.slice_bounds-extend_from_slice-end
 slice_bounds-extend_from_slice-end c =
     let d = c.step-written in
-    let x = levels_in c.args.head.now.places.now c.args.head.now.used in
-    let y = levels_in c.args.root.now.places.now c.args.root.now.used in
-    let x' = levels_in d.new.head.places.now d.new.head.used in
-    let y' = levels_in d.new.root.places.now d.new.root.used in
-    let w = steps_lists (has_started c.args.self.session) (has_started d.result.playback.session) (state c.args.self.session x y) (state d.result.playback.session x' y')
+    let w = steps_lists (has_started c.args.self.session) (has_started d.result.playback.session) (state c.args.self.session c.args.saved.now) (state d.result.playback.session d.new.saved)
     c.args.line.now (replicate 20 0) d.new.out d.result.written c.in-Ok.n c.in-Ok.is d.ensures.steps in
     let h : c.in-Ok.n ≤ length d.new.out = w.0 in
     omega (arith, h)
@@ -21,12 +16,8 @@ slice_bounds-extend_from_slice-end c =
 pub returns-in_ok-extend_from_slice : goal.returns-in_ok-extend_from_slice
 returns-in_ok-extend_from_slice c =
     let d = c.step-written in
-    let x = levels_in c.args.head.now.places.now c.args.head.now.used in
-    let y = levels_in c.args.root.now.places.now c.args.root.now.used in
-    let x' = levels_in d.new.head.places.now d.new.head.used in
-    let y' = levels_in d.new.root.places.now d.new.root.used in
-    let s = state c.args.self.session x y in
-    let s' = state d.result.playback.session x' y' in
+    let s = state c.args.self.session c.args.saved.now in
+    let s' = state d.result.playback.session d.new.saved in
     let on = has_started c.args.self.session in
     let on' = has_started d.result.playback.session in
     let w = steps_lists on on' s s' c.args.line.now (replicate 20 0) d.new.out d.result.written c.in-Ok.n c.in-Ok.is d.ensures.steps in

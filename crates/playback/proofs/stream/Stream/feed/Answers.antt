@@ -1,6 +1,4 @@
-use Rattle.std.proofs.Common.{◌-◌, ◌++◌, length, take, drop, vec_items, refl, ap, ◌∙◌}
-use Rattle.std.proofs.lemmas.List.{take_rest}
-use Rattle.trace.specs.Lines.{levels_in}
+use Rattle.std.proofs.Common.{◌++◌, take, vec_items, refl, ap, ◌∙◌}
 use Rattle.trace.specs.Sessions.{has_started}
 use Rattle.playback.specs.States.{state}
 use Rattle.playback.proofs.Joining.{feeds_none, feeds_some}
@@ -15,8 +13,7 @@ returns-in_default c =
     record {
       lent = (refl, refl);
       feeds =
-          feeds_none (has_started q) (state q (levels_in c.args.head.now.places.now c.args.head.now.used) (levels_in c.args.root.now.places.now c.args.root.now.used))
-          (vec_items c.args.self.begun) c.args.block.now (vec_items c.args.listing.now) (vec_items c.keep.new.begun) c.in_default.ensures c.in_ok-keep.ensures.kept;
+          feeds_none (has_started q) (state q c.args.saved.now) (vec_items c.args.self.begun) c.args.block.now (vec_items c.args.listing.now) (vec_items c.keep.new.begun) c.in_default.ensures c.in_ok-keep.ensures.kept;
     }
 
 pub invariant_of-result-2 : goal.invariant_of-result-2
@@ -29,19 +26,14 @@ returns c =
     let o = c.in_ok-playback.playback.session in
     let x = c.in_ok-playback.ensures in
     let f = c.play_lines.new in
-    let p = c.in_ok-playback-2.field-0.playback.session in
-    let n = c.in_ok-playback-2.field-0.played in
+    let p = c.in_ok-playback-2.playback.session in
+    let tail = c.in_ok-playback-2.rest.now in
     let y = c.in_ok-playback-2.ensures in
-    let rest = c.in-Some.rest.now in
-    let tail = take (length rest - n) (drop n rest) in
     record {
       lent = (y.lent.0 ∙ x.lent.0, y.lent.1 ∙ x.lent.1);
       feeds =
-          feeds_some (has_started q) (has_started o) (has_started p)
-          (state q (levels_in c.args.head.now.places.now c.args.head.now.used) (levels_in c.args.root.now.places.now c.args.root.now.used))
-          (state o (levels_in d.head.places.now d.head.used) (levels_in d.root.places.now d.root.used))
-          (state p (levels_in f.head.places.now f.head.used) (levels_in f.root.places.now f.root.used))
-          (vec_items c.args.self.begun) c.args.block.now c.in-Some.line.now rest (vec_items c.args.listing.now) (vec_items d.listing) (vec_items f.listing) c.deref.result.now
-          tail (vec_items c.keep-3.new.begun) n c.in-Some.ensures (c.deref.ensures.value ∙ c.in_ok-keep-2.ensures.kept) x.plays y.plays.0 (take_rest rest n) y.plays.2
+          feeds_some (has_started q) (has_started o) (has_started p) (state q c.args.saved.now) (state o d.saved) (state p f.saved)
+          (vec_items c.args.self.begun) c.args.block.now c.in-Some.line.now c.in-Some.rest.now (vec_items c.args.listing.now) (vec_items d.listing) (vec_items f.listing) c.deref.result.now
+          tail (vec_items c.keep-3.new.begun) c.in-Some.ensures (c.deref.ensures.value ∙ c.in_ok-keep-2.ensures.kept) x.plays y.plays y.rest
           (c.in_ok-keep-3.ensures.kept ∙ ap (λ z. take 81 (z ++ tail)) c.clear.ensures.items);
     }

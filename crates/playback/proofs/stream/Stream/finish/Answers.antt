@@ -1,5 +1,4 @@
 use Rattle.std.proofs.Common.{vec_items}
-use Rattle.trace.specs.Lines.{levels_in}
 use Rattle.trace.specs.Sessions.{has_started}
 use Rattle.playback.specs.States.{state}
 use Rattle.playback.proofs.Joining.{finishes_by}
@@ -12,8 +11,6 @@ returns c =
     record {
       lent = d.ensures.lent;
       finishes =
-          finishes_by d.result (λ p. has_started p.session)
-          (λ p. state p.session (levels_in d.new.head.places.now d.new.head.used) (levels_in d.new.root.places.now d.new.root.used))
-          (has_started q) (state q (levels_in c.args.head.now.places.now c.args.head.now.used) (levels_in c.args.root.now.places.now c.args.root.now.used))
+          finishes_by d.result (λ p. has_started p.session) (λ p. state p.session d.new.saved) (has_started q) (state q c.args.saved.now)
           (vec_items c.args.self.begun) c.deref.result.now (vec_items c.args.listing.now) (vec_items d.new.listing) c.deref.ensures.value d.ensures.plays;
     }

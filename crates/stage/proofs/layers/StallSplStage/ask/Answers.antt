@@ -6,6 +6,5 @@ use Rattle.stage.proofs.layers.StallSplStage.ask.Goals as goal
 pub returns : goal.returns
 returns g c =
     let s = c.args.self.now in
-    let t = s.below in
-    let o = g.met.C.Controller.sound t.below c.requires.0 in
-    c.told_by.ensures ∙ ap (λ x. tells x c.args.question) (told_now g.P.Policy g.P.Kind.Level g.C.Controller g.met.P.Policy.decodes g.met.P.Policy.distinct t s.stalled o c.requires)
+    let told = told_now g.met.P.Policy.decodes g.met.P.Policy.distinct s.below s.stalled (g.met.C.Controller.sound s.below.below) in
+    c.told_by.ensures ∙ ap (λ x. tells x c.args.question) told

@@ -1,0 +1,19 @@
+// The numbers by which refusals are listed.
+ghost use Rattle.std.specs.Prelude.{◌≡◌};
+ghost use Rattle.model.specs.Refusals.{number_of};
+
+use crate::Fault;
+
+impl Fault {
+    // The number of the refusal.
+    pub fn number(self) -> u8
+        ensures { result ≡ number_of self }
+    {
+        match self {
+            Fault::Controller(fault) => fault.number(),
+            Fault::Level(fault) => fault.number(),
+            Fault::NotAtStage => 5,
+            Fault::OverLimit => 9,
+        }
+    }
+}
