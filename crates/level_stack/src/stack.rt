@@ -52,7 +52,7 @@ impl<'a, L: Copy> LevelStack<'a, L> {
         self.levels().last().copied()
     }
 
-    // Puts the level on the stack.
+    // Puts the level on the stack. That the places stay those lent is a fact of the loan, which each call says.
     pub fn push(&mut self, level: L) -> Result<(), StackFault>
         ensures pushes { Pushes self.old level result self.new }
         ensures lent { SamePlaces self.old self.new }

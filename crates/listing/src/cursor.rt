@@ -13,6 +13,7 @@ pub(crate) struct Cursor<'a> {
     at: usize,
 }
 
+// The byte of a digit below 16; `char::from_digit` gives an option of a char.
 fn digit_letter(d: u64) -> u8
     requires { d < 16 }
     ensures { result ≡ digit_letter d }

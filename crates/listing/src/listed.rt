@@ -50,7 +50,7 @@ pub enum Listed {
 pub struct ShortBuffer;
 
 impl ShortBuffer {
-    // The number of the refusal.
+    // The number of the refusal, the only one of its kind, so that no enum numbers it.
     pub fn number(self) -> u8
         ensures { result ≡ short_buffer_number }
     {

@@ -105,7 +105,8 @@ fn a_short_buffer_is_refused_and_stays(rt: HostRuntime) {
     let mut short = [b'#'; 19];
     let refused = write_line(&mut short, Ok(Listed::Accepted));
     assert_eq!(rt; refused, Err(ShortBuffer));
-    assert!(rt; short[0] == b'#' && short[18] == b'#');
+    assert_eq!(rt; short[0], b'#');
+    assert_eq!(rt; short[18], b'#');
     let mut enough = [b'#'; 20];
     assert_eq!(rt; write_line(&mut enough, Ok(Listed::Accepted)), Ok(3));
     assert_eq!(rt; ShortBuffer.number(), 10);

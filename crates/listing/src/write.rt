@@ -9,6 +9,7 @@ use controller::Raised;
 use lines::LineSet;
 use model::{Answer, Kernel, Place};
 
+// The letter of a place in a listing. No From, since both types are other crates'.
 fn place_letter(place: Place) -> u8
     ensures { result ≡ place_letter place }
 {

@@ -113,7 +113,7 @@ impl<P: Live, H: Controller, A: Stage, B: Stage> Machine<P, H, A, B> {
         }
     }
 
-    // Stalls the kernel's stage, and answers whether it was stalled: two calls, as at the stage.
+    // Stalls the kernel's stage, and answers whether it was stalled. The rules name two calls, so no flag stands for them.
     pub fn stall(&mut self, kernel: Kernel) -> bool
         ensures { Step (model_of H.Controller A.Stage B.Stage self.old) (to_call kernel stall_call) (Ok (was_stalled result)) (model_of H.Controller A.Stage B.Stage self.new) }
     {

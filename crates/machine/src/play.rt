@@ -30,7 +30,7 @@ impl<H: Controller, A: Stage, B: Stage> Machine<Running, H, A, B> {
         }
     }
 
-    // Next for a kernel.
+    // Next for a kernel. Each outcome of the root's has an answer of its own, so the result is matched.
     fn call_next(&mut self, kernel: Kernel) -> Answer
         ensures { Step (model_of H.Controller A.Stage B.Stage self.old) (next_call kernel) (Ok result) (model_of H.Controller A.Stage B.Stage self.new) }
     {

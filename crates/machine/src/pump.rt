@@ -15,7 +15,8 @@ use stage::Stage;
 // The most lines that one pump moves.
 const LIMIT: u8 = 64;
 
-// How many lines arrived, and which; the answer of that name has the two as they are, like each answer its parts.
+// How many lines arrived, and which: by the rules a pump answers both. The model's answer has the two as they are, since what a
+// pump does with them, one line more at a time, is the machine's.
 #[derive(Clone, Copy, Debug, PartialEq, Eq)]
 pub struct Arrived {
     pub count: u8,

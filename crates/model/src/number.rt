@@ -5,7 +5,7 @@ ghost use Rattle.model.specs.Refusals.{number_of};
 use crate::Fault;
 
 impl Fault {
-    // The number of the refusal.
+    // The number of the refusal. A variant that carries a fault has no discriminant, so the other two have none either.
     pub fn number(self) -> u8
         ensures { result ≡ number_of self }
     {

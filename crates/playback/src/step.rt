@@ -15,7 +15,7 @@ use spl::{HeadPolicy, RootPolicy};
 use stage::on;
 use trace::{Saved, Session, Stepped, step};
 
-// The machine after a line, and how many bytes were listed: named parts, like a step's.
+// The machine after a line, and how many bytes were listed; a session's step has a struct of its own, which names the session.
 #[derive(Drop)]
 pub struct PlaybackStepped {
     pub playback: Playback,

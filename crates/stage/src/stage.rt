@@ -35,7 +35,7 @@ pub trait Stage {
     fn end(&mut self) -> Result<u8, ControllerFault>
         ensures { Through Ends (model self.old) result (model self.new) };
 
-    // Sets the stall bit, and answers the former one: stall and unstall are two calls here too, as at the stall layer.
+    // Sets the stall bit, and answers the former one. The rules name two calls, stall and unstall, so no flag stands for them.
     fn stall(&mut self) -> bool
         ensures { SetsStalled true (model self.old) result (model self.new) };
 

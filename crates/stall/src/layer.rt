@@ -29,7 +29,7 @@ impl<C: Controller> Stall<C> {
         }
     }
 
-    // Sets the bit, and answers the former one. Stall and unstall are calls with names of their own, so no flag stands for them.
+    // Sets the bit, and answers the former one. The rules name two calls, stall and unstall, so no flag stands for them.
     pub fn stall(&mut self) -> bool
         ensures former { result ≡ self.old.stalled }
         ensures bit { self.new.stalled ≡ true }

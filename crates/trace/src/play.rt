@@ -15,7 +15,7 @@ use routes::Route;
 use stage::Stage;
 use trace_lines::{Setup, read_command, read_setup};
 
-// The session that a line left, and its result: named parts, like a step's.
+// The session that a line left, and its result, which is not yet listed, unlike a step's.
 pub(crate) struct Played<H: Controller, A: Stage, B: Stage> {
     pub(crate) session: Session<H, A, B>,
     pub(crate) result: Result<Listed, TraceFault>,
@@ -61,6 +61,7 @@ fn before_start<H: Controller, A: Stage, B: Stage>(
 ) -> Played<H, A, B>
     ensures { PlaysSetup (model_of H.Controller A.Stage B.Stage machine) line.now result.result (has_started result.session) (session_model H.Controller A.Stage B.Stage result.session) }
 {
+    // matched, and no `?`, since the machine goes on either way
     match read_setup(line) {
         Ok(setup) => set_up(machine, setup),
         Err(fault) => Played {

@@ -15,8 +15,8 @@ use spl::{LevelFault, Policy};
 use stage::Stage;
 
 // The saved levels of both kernels, over places that their callers lend. That they stay the places lent is a fact of the loan,
-// which each call says, since no type can hold it; and `saved` stays a parameter of its own, as the checker takes no function
-// that gives back a session in one value with what is lent.
+// which each call says, since no type can hold it; and `saved` stays a parameter of its own, like a listing, as the checker takes no
+// function that gives back a session in one value with what is lent.
 #[derive(Drop)]
 pub struct Saved<'a> {
     pub head: LevelStack<'a, Class>,
@@ -49,7 +49,8 @@ fn unknown(kernel: Kernel) -> TraceFault
     })
 }
 
-// Sets the level that the code names, and saves the former one.
+// Sets the level that the code names, and saves the former one. Policy and stack are of the kernel's own types, so whoever knows
+// the kernel hands over all three.
 pub(crate) fn set_level<P: Policy, H: Controller, A: Stage, B: Stage>(
     policy: &P,
     machine: &mut Machine<Running, H, A, B>,

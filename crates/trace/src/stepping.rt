@@ -11,7 +11,8 @@ use controller::Controller;
 use listing::{ShortBuffer, write_line};
 use stage::Stage;
 
-// The machine after a step, and how many bytes the step wrote, since the buffer is its lender's: named parts, where one generic pair would name neither.
+// The machine after a step, and how many bytes the step wrote, since the buffer is its lender's. A playback's has
+// a struct of its own: what goes on is a session here and a playback there, and each is named.
 #[derive(Drop)]
 pub struct Stepped<H: Controller, A: Stage, B: Stage> {
     pub session: Session<H, A, B>,

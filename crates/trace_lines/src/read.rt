@@ -120,7 +120,7 @@ fn command_line(line: &[u8]) -> Result<Command, TextFault>
     }
 }
 
-// The route that two numbers say, each in its range; a pair of numbers has no conversion of its own to give.
+// The route that two numbers say, each in its range. No TryFrom, which would be one of plain pairs of numbers.
 fn route_of(line: u64, flags: u64) -> Result<Setup, TextFault>
     ensures { result ≡ said (ranged setup_in_range (Some (route line flags))) }
 {

@@ -15,7 +15,8 @@ use lines::LineSet;
 // The controller with all 64 lines. While a line of a class is in service, no other line of that class is deliverable.
 pub type Vectored = Bank<VectoredRegisters>;
 
-// A set of lines for each register.
+// A set of lines for each register. The log's registers are a struct of their own, since their pending set is a bitmap, which is
+// searched in its own way.
 #[derive(Clone, Copy, Debug, PartialEq, Eq)]
 pub struct VectoredRegisters {
     pending: LineSet,
