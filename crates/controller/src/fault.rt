@@ -21,7 +21,7 @@ pub enum ControllerFault {
 }
 
 impl ControllerFault {
-    // The number of the refusal.
+    // The number of the refusal: one line for each enum of faults, where a trait would need a crate below them all.
     pub fn number(self) -> u8
         ensures { result ≡ fault_number self }
     {

@@ -12,7 +12,7 @@ pub enum StackFault {
 }
 
 impl StackFault {
-    // The number of the refusal.
+    // The number of the refusal: one line for each enum of faults, as in crate controller.
     pub fn number(self) -> u8
         ensures { result ≡ stack_fault_number self }
     {

@@ -1,4 +1,4 @@
-// Sets of at most eight lines in a byte, as a chip's register has them.
+// Sets of at most eight lines in a byte, as a chip's register has them: a byte and no LineSet, since a register's memory is fixed.
 ghost use Rattle.std.specs.Prelude.{◌≡◌, ℕ, ◌<◌, Bool, true, false};
 ghost use Rattle.lines.specs.Sets.{has, minus, only, with_line};
 

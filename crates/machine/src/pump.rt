@@ -74,6 +74,7 @@ impl<P: Live, H: Controller, A: Stage, B: Stage> Machine<P, H, A, B> {
             });
         }
         let mut arrived = Arrived::none();
+        // what has arrived so far is the answer when no line is left, so there is no `?`
         for _ in 0..n {
             match self.arrive() {
                 Some(line) => arrived = arrived.with(line),

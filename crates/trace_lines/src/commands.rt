@@ -16,7 +16,7 @@ pub enum TextFault {
 }
 
 impl TextFault {
-    // The number of the refusal.
+    // The number of the refusal: one line for each enum of faults, as in crate controller.
     pub fn number(self) -> u8
         ensures { result ≡ text_fault_number self }
     {
