@@ -15,7 +15,7 @@ use lines::LineSet;
 #[derive(Drop)]
 pub struct Bank<R: Registers> {
     registers: R,
-    ghost sound: { Sound (bank_view R.Registers.wired R.Ranking.order (R.Registers.contents registers)) },
+    pub ghost sound: { Sound (bank_view R.Registers.wired R.Ranking.order (R.Registers.contents registers)) },
 }
 
 impl<R: Registers> Bank<R> {

@@ -1,4 +1,7 @@
 // How calls and replies are printed.
+ghost use Rattle.std.specs.Prelude.{Some};
+ghost use Rattle.calls.specs.Shown.{kernel_words, place_words, reply_words};
+
 use controller::Raised;
 use model::{Answer, Call, Kernel, Place, Question, Reply, StageCall};
 use std::fmt;
@@ -8,6 +11,8 @@ use std::fmt;
 pub struct Shown<T>(pub T);
 
 impl fmt::Display for Shown<Kernel> {
+    ghost output = { λ s. Some (kernel_words s.0) };
+
     fn fmt<W: fmt::Write>(&self, f: &mut fmt::Formatter<W>) -> fmt::Result {
         f.write_str(match self.0 {
             Kernel::Head => "head",
@@ -17,6 +22,8 @@ impl fmt::Display for Shown<Kernel> {
 }
 
 impl fmt::Display for Shown<Place> {
+    ghost output = { λ s. Some (place_words s.0) };
+
     fn fmt<W: fmt::Write>(&self, f: &mut fmt::Formatter<W>) -> fmt::Result {
         match self.0 {
             Place::Hardware => f.write_str("hardware"),
@@ -81,6 +88,8 @@ impl fmt::Display for Shown<Answer> {
 }
 
 impl fmt::Display for Shown<Reply> {
+    ghost output = { λ s. reply_words s.0 };
+
     fn fmt<W: fmt::Write>(&self, f: &mut fmt::Formatter<W>) -> fmt::Result {
         match self.0 {
             Ok(answer) => write!(f, "{}", Shown(answer)),

@@ -1,5 +1,5 @@
 -- The laws of sets of lines: what each operation has, and that a set is known by its lines.
-use Rattle.std.proofs.Common.{◌≡◌, ℕ, zero, suc, ◌-◌, ◌/◌, ◌%◌, ◌^◌, ◌<◌, ◌≤◌, true, false, not, ◌&&◌, ◌||◌, eqb, sym, refl, inl, inr, arith}
+use Rattle.std.proofs.Common.{◌≡◌, ℕ, zero, suc, ◌+◌, ◌-◌, ◌/◌, ◌%◌, ◌^◌, ◌<◌, ◌≤◌, Bool, true, false, not, ◌&&◌, ◌||◌, eqb, ◌⊎◌, sym, refl, ap, ◌∙◌, inl, inr, arith}
 use lib.Bits.{bit_and}
 use mir.Val.{bits}
 use Rattle.std.specs.Int.{Width, bit_not}
@@ -7,6 +7,11 @@ use Rattle.std.proofs.lemmas.Nat.Bits.{bit_at-lt, bit_at_lowest, bit_at-suc, bit
 use Rattle.std.proofs.lemmas.Bool.Decides.{nat_tests}
 use Rattle.std.proofs.lemmas.Bool.{eq-eqb, ne_eqb, cases_order, cases_eq, cases_lt, both_ways}
 use Rattle.lines.specs.Sets.{has, union, common, minus, only}
+
+-- a bit is 0 or 1
+pub bit_two : (x : ℕ) → (x % 2 ≡ 0) ⊎ (x % 2 ≡ 1)
+bit_two x =
+    elim (cases_order (x % 2) 0) [ inl e ↦ inl e | inr o ↦ elim o [ inl l ↦ inl (omega arith) | inr g ↦ inr (omega arith) ] ]
 
 pub has-common : (s t n : ℕ) → has (common s t) n ≡ (has s n && has t n)
 unfolding has common
@@ -81,6 +86,34 @@ module _ (w : Width) (s t : ℕ) (a : s < 2 ^ bits w) (b : t < 2 ^ bits w) where
 
   pub and_not : bit_and s (bit_not w t) ≡ minus s t
   and_not = ext _ _ and_not_at
+
+-- the same at any number of bits
+low_flip : (x y : ℕ) → (x ≡ 0) ⊎ (x ≡ 1) → (y ≡ 0) ⊎ (y ≡ 1) → x + y ≡ 1 → eqb x 1 ≡ not (eqb y 1)
+low_flip x y (inl a) (inl b) e = absurd (omega arith)
+low_flip x y (inl a) (inr b) e = rw (a, b) refl
+low_flip x y (inr a) (inl b) e = rw (a, b) refl
+low_flip x y (inr a) (inr b) e = absurd (omega arith)
+
+complement_has : (k s n : ℕ) → s < 2 ^ k → n < k → has (2 ^ k - 1 - s) n ≡ not (has s n)
+complement_has zero s n a b = absurd (omega arith)
+complement_has (suc k) s zero a b =
+    rw (has-zero (2 ^ suc k - 1 - s), has-zero s) (low_flip _ _ (bit_two (2 ^ suc k - 1 - s)) (bit_two s) (omega arith))
+complement_has (suc k) s (suc n) a b =
+    let e : (2 ^ suc k - 1 - s) / 2 ≡ 2 ^ k - 1 - s / 2 = omega arith in
+    rw (← (has-suc (2 ^ suc k - 1 - s) n), ← (has-suc s n), e) (complement_has k (s / 2) n (omega arith) (omega arith))
+
+module _ (k s t : ℕ) (a : s < 2 ^ k) (b : t < 2 ^ k) where
+  as_common : (n : ℕ) → has (bit_and s (2 ^ k - 1 - t)) n ≡ (has s n && has (2 ^ k - 1 - t) n)
+  unfolding common
+  as_common n = has-common s (2 ^ k - 1 - t) n
+
+  and_not_under : (n : ℕ) (x : Bool) → has s n ≡ x → has (bit_and s (2 ^ k - 1 - t)) n ≡ has (minus s t) n
+  and_not_under n true e =
+      as_common n ∙ ap (λ y. has s n && y) (complement_has k t n b (has_small k s n a e)) ∙ sym (has-minus s t n)
+  and_not_under n false e = rw (as_common n, has-minus s t n, e) refl
+
+  pub and_not_below : bit_and s (2 ^ k - 1 - t) ≡ minus s t
+  and_not_below = ext _ _ (λ n. and_not_under n (has s n) refl)
 
 -- the laws as one list, for `simp` and `grind`
 pub ruleset members = (has-union, has-common, has-minus, has-only, has_none)

@@ -15,6 +15,10 @@ length-put : (xs : List ℕ) (i : ℕ) (ws : List ℕ) → i + length ws ≤ len
 unfolding put_at
 length-put xs i ws h = simp (length-append, length-take, length-drop) (omega arith)
 
+pub put_none : (xs : List ℕ) (i : ℕ) → i ≤ length xs → put_at xs i [] ≡ xs
+unfolding put_at
+put_none xs i h = same_lists _ _ (search (rules, places)) (λ k d l. grind (arith, places))
+
 pub put_byte : (xs : List ℕ) (i b : ℕ) → i < length xs → set xs i b ≡ put_at xs i (b ∷ [])
 unfolding put_at
 put_byte xs i b h = same_lists _ _ (search (rules, places)) (λ k d l. grind (arith, places, get_or-set_same, cases_eq k i))

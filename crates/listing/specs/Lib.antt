@@ -2,3 +2,4 @@ pub mod Cursors
 pub mod Faults
 pub mod Listing
 pub mod Numbers
+pub mod Refusals

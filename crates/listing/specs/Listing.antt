@@ -6,11 +6,11 @@ use Rattle.model.specs.declared.calls.Place.{Place}
 use Rattle.model.specs.declared.calls.Place.TheVariants.{Hardware, Kernel}
 use Rattle.model.specs.declared.calls.Answer.{Answer}
 use Rattle.model.specs.declared.calls.Answer.TheVariants.{Raised, Masked, Arrived, Delivered, Held, Busy, Ended, WasStalled, WasAtLevel, Told}
-use Rattle.level_stack.specs.Faults.{stack_fault_number}
-use Rattle.trace_lines.specs.Faults.{text_fault_number}
-use Rattle.model.specs.Refusals.{number_of}
+use Rattle.listing.specs.declared.listed.ListedPlace.{ListedPlace}
+use Rattle.listing.specs.declared.listed.ListedPlace.TheVariants.{Machine, Text}
+use Rattle.listing.specs.declared.listed.Refusal.{Refusal}
 use Rattle.listing.specs.declared.listed.TraceFault.{TraceFault}
-use Rattle.listing.specs.declared.listed.TraceFault.TheVariants.{Text, Machine, Saved}
+use Rattle.listing.specs.Refusals.{refusal_of}
 use Rattle.listing.specs.declared.listed.Listed.{Listed}
 use Rattle.listing.specs.declared.listed.Listed.TheVariants.{Accepted, Answered, Restored}
 use Rattle.listing.specs.declared.listed.ShortBuffer.{ShortBuffer}
@@ -35,14 +35,13 @@ place_letter Hardware = 99
 place_letter (Kernel Head) = 104
 place_letter (Kernel Root) = 114
 
+-- and t for the text
+abbrev pub listed_letter : ListedPlace → ℕ
+listed_letter (Machine p) = place_letter p
+listed_letter Text = 116
+
 abbrev pub refusal : ℕ → ℕ → List ℕ
 refusal number letter = codes "! " ++ (decimal number ++ (codes " " ++ (letter ∷ [])))
-
--- t for the text; a stack of saved levels is its kernel's
-abbrev pub refusal_text : TraceFault → List ℕ
-refusal_text (Text e) = refusal (text_fault_number e) 116
-refusal_text (Machine e) = refusal (number_of e.fault) (place_letter e.place)
-refusal_text (Saved e k) = refusal (stack_fault_number e) (place_letter (Kernel k))
 
 -- ---- the table
 
@@ -67,13 +66,34 @@ text (Answered a) = answer_text a
 text (Restored code) = decimal code
 
 -- the words of a line: of an obeyed one, or of a refusal
-abbrev pub words : Result Listed TraceFault → List ℕ
-words (Ok a) = text a
-words (Err e) = refusal_text e
+abbrev pub words_of : Result Listed Refusal → List ℕ
+words_of (Ok a) = text a
+words_of (Err r) = refusal r.number (listed_letter r.place)
 
 -- a line ends in a line feed
+abbrev pub line_of : Result Listed Refusal → List ℕ
+line_of r = words_of r ++ (10 ∷ [])
+
+-- a refusal is listed as what it converts to
+abbrev pub As : {F : Type 0} → (F → Refusal → Type 0) → Result Listed F → Result Listed Refusal → Type 0
+As converts (Ok a) l = l ≡ Ok a
+As converts (Err e) l = (r : Refusal) × converts e r × (l ≡ Err r)
+
+-- of a refusal of a trace
+abbrev pub refusal_text : TraceFault → List ℕ
+refusal_text e = words_of (Err (refusal_of e))
+
+-- what a line of a trace came to, as it is listed
+abbrev pub told : Result Listed TraceFault → Result Listed Refusal
+told (Ok a) = Ok a
+told (Err e) = Err (refusal_of e)
+
+-- its words, and its line
+abbrev pub words : Result Listed TraceFault → List ℕ
+words r = words_of (told r)
+
 abbrev pub line : Result Listed TraceFault → List ℕ
-line r = words r ++ (10 ∷ [])
+line r = line_of (told r)
 
 -- ---- the buffer
 
@@ -90,13 +110,20 @@ answer_room (WasStalled b) = 20
 answer_room (WasAtLevel n) = 20
 answer_room (Told s) = 20
 
+abbrev pub room_of : Result Listed Refusal → ℕ
+room_of (Ok Accepted) = 20
+room_of (Ok (Answered a)) = answer_room a
+room_of (Ok (Restored code)) = 20
+room_of (Err r) = 20
+
 abbrev pub room : Result Listed TraceFault → ℕ
-room (Ok Accepted) = 20
-room (Ok (Answered a)) = answer_room a
-room (Ok (Restored code)) = 20
-room (Err e) = 20
+room r = room_of (told r)
 
 -- A line written at the start of a buffer: the answer counts its bytes, and those past it stay. A buffer without the room is refused and stays.
+abbrev pub WritesLine : Result Listed Refusal → List ℕ → Result ℕ ShortBuffer → List ℕ → Type 0
+WritesLine a xs (Ok n) ys = (room_of a ≤ length xs) × (n ≡ length (line_of a)) × (n ≤ room_of a) × (ys ≡ line_of a ++ drop n xs)
+WritesLine a xs (Err e) ys = (length xs < room_of a) × (ys ≡ xs)
+
+-- the same of what a line of a trace came to
 abbrev pub Writes : Result Listed TraceFault → List ℕ → Result ℕ ShortBuffer → List ℕ → Type 0
-Writes a xs (Ok n) ys = (room a ≤ length xs) × (n ≡ length (line a)) × (n ≤ room a) × (ys ≡ line a ++ drop n xs)
-Writes a xs (Err e) ys = (length xs < room a) × (ys ≡ xs)
+Writes r xs w ys = WritesLine (told r) xs w ys

@@ -1,6 +1,6 @@
 // A lent buffer that is written from its start on.
 // No `Display` and `write!`: they say what is written only where no write failed, and a line that fits never fails.
-ghost use Rattle.std.specs.Prelude.{◌≡◌, ℕ, ◌+◌, ◌<◌, ◌≤◌, [], ◌∷◌, length};
+ghost use Rattle.std.specs.Prelude.{◌≡◌, ℕ, ◌+◌, ◌<◌, ◌≤◌, [], ◌∷◌, length, nat_lt};
 ghost use Rattle.listing.specs.Cursors.{Puts};
 ghost use Rattle.listing.specs.Listing.{decimal, hexadecimal};
 ghost use Rattle.listing.specs.Numbers.{digit_letter, written};
@@ -23,6 +23,13 @@ fn digit_letter(d: u64) -> u8
     } else {
         b'a' + (d - 10) as u8
     }
+}
+
+// Whether a number has one digit.
+fn is_digit(n: u64, base: u64) -> bool
+    ensures { result ≡ nat_lt n base }
+{
+    n < base
 }
 
 impl<'a> Cursor<'a> {
@@ -68,7 +75,7 @@ impl<'a> Cursor<'a> {
         requires room { self.old.at + length (written base n) ≤ length self.old.out.now }
         ensures { Puts self.old (written base n) self.new }
     {
-        if n < base {
+        if is_digit(n, base) {
             self.byte(digit_letter(n));
         } else {
             self.number(base, n / base);

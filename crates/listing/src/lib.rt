@@ -7,5 +7,5 @@ mod listed;
 mod tests;
 mod write;
 
-pub use listed::{Listed, ShortBuffer, TraceFault};
+pub use listed::{Listed, ListedPlace, Refusal, ShortBuffer, TraceFault};
 pub use write::write_line;

@@ -1,10 +1,12 @@
 // A line of a listing.
-ghost use Rattle.std.specs.Prelude.{◌≡◌, Ok, ℕ, ◌+◌, ◌<◌, ◌≤◌, length};
+ghost use Rattle.std.specs.Prelude.{◌≡◌, Ok, Result, ℕ, ◌+◌, ◌<◌, ◌≤◌, length};
 ghost use Rattle.listing.specs.Cursors.{Puts};
-ghost use Rattle.listing.specs.Listing.{place_letter, refusal, refusal_text, answer_text, text, words, answer_room, room, Writes};
+ghost use Rattle.listing.specs.declared.listed.Listed.{Listed as what_is_listed};
+ghost use Rattle.listing.specs.declared.listed.Refusal.{Refusal as refusal_listed};
+ghost use Rattle.listing.specs.Listing.{place_letter, listed_letter, refusal, answer_text, text, words_of, answer_room, room_of, As, WritesLine};
 
 use crate::cursor::Cursor;
-use crate::{Listed, ShortBuffer, TraceFault};
+use crate::{Listed, ListedPlace, Refusal, ShortBuffer};
 use controller::Raised;
 use lines::LineSet;
 use model::{Answer, Kernel, Place};
@@ -43,19 +45,13 @@ fn put_refusal(to: &mut Cursor<'_>, number: u8, letter: u8)
     to.byte(letter);
 }
 
-fn put_refused(to: &mut Cursor<'_>, refused: TraceFault)
-    requires { to.old.at + 20 ≤ length to.old.out.now }
-    ensures within { to.new.at < to.old.at + 20 }
-    ensures puts { Puts to.old (refusal_text refused) to.new }
+// The letter of where a refusal is listed to be.
+fn listed_letter(place: ListedPlace) -> u8
+    ensures { result ≡ listed_letter place }
 {
-    match refused {
-        TraceFault::Text(fault) => put_refusal(to, fault.number(), b't'),
-        TraceFault::Machine(refused) => {
-            put_refusal(to, refused.fault.number(), place_letter(refused.place))
-        }
-        TraceFault::Saved { fault, kernel } => {
-            put_refusal(to, fault.number(), place_letter(Place::Kernel(kernel)))
-        }
+    match place {
+        ListedPlace::Machine(place) => place_letter(place),
+        ListedPlace::Text => b't',
     }
 }
 
@@ -82,8 +78,8 @@ fn put_answer(to: &mut Cursor<'_>, a: Answer)
 }
 
 fn put_listed(to: &mut Cursor<'_>, listed: Listed)
-    requires { to.old.at + room (Ok listed) ≤ length to.old.out.now }
-    ensures within { to.new.at < to.old.at + room (Ok listed) }
+    requires { to.old.at + room_of (Ok listed) ≤ length to.old.out.now }
+    ensures within { to.new.at < to.old.at + room_of (Ok listed) }
     ensures puts { Puts to.old (text listed) to.new }
 {
     match listed {
@@ -93,20 +89,20 @@ fn put_listed(to: &mut Cursor<'_>, listed: Listed)
     }
 }
 
-fn put_words(to: &mut Cursor<'_>, line: Result<Listed, TraceFault>)
-    requires { to.old.at + room line ≤ length to.old.out.now }
-    ensures within { to.new.at < to.old.at + room line }
-    ensures puts { Puts to.old (words line) to.new }
+fn put_words(to: &mut Cursor<'_>, line: Result<Listed, Refusal>)
+    requires { to.old.at + room_of line ≤ length to.old.out.now }
+    ensures within { to.new.at < to.old.at + room_of line }
+    ensures puts { Puts to.old (words_of line) to.new }
 {
     match line {
         Ok(listed) => put_listed(to, listed),
-        Err(fault) => put_refused(to, fault),
+        Err(refusal) => put_refusal(to, refusal.number, listed_letter(refusal.place)),
     }
 }
 
 // How many bytes a buffer must have for the line.
-fn needed(line: Result<Listed, TraceFault>) -> usize
-    ensures { result ≡ room line }
+fn needed(line: Result<Listed, Refusal>) -> usize
+    ensures { result ≡ room_of line }
 {
     match line {
         Ok(Listed::Answered(Answer::Arrived { count, .. })) if count > 99 => 21,
@@ -114,10 +110,25 @@ fn needed(line: Result<Listed, TraceFault>) -> usize
     }
 }
 
-// One line at the start of the buffer, with its line feed; the answer is how many bytes it has.
-pub fn write_line(out: &mut [u8], line: Result<Listed, TraceFault>) -> Result<usize, ShortBuffer>
-    ensures { Writes line out.old result out.new }
+// The line with its refusal as it is listed.
+fn told<F: Into<Refusal>>(line: Result<Listed, F>) -> Result<Listed, Refusal>
+    ensures { As F.Into.converts line result }
 {
+    match line {
+        Ok(listed) => Ok(listed),
+        Err(fault) => Err(fault.into()),
+    }
+}
+
+// One line at the start of the buffer, with its line feed; the answer is how many bytes it has. A refusal is a trace's own, or
+// any number at any place.
+pub fn write_line<F: Into<Refusal>>(
+    out: &mut [u8],
+    line: Result<Listed, F>,
+) -> Result<usize, ShortBuffer>
+    ensures { (l : Result what_is_listed refusal_listed) × As F.Into.converts line l × WritesLine l out.old result out.new }
+{
+    let line = told(line);
     if out.len() < needed(line) {
         return Err(ShortBuffer);
     }

@@ -9,6 +9,7 @@ mod play;
 mod pump;
 
 pub use machine::Machine;
+pub use model::{At, Fault, HeadSeat, MachineFault, RootSeat};
 pub use phase::{Asked, Closed, LaidOut, Live, Running};
 pub use play::run;
 pub use pump::Arrived;

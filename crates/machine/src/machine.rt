@@ -23,8 +23,8 @@ pub struct Machine<P, H: Controller, A: Stage, B: Stage> {
     pub(crate) head: A,
     pub(crate) root: B,
     pub(crate) routes: Routes,
-    ghost head_fits: { Within routes.head_handles.bits (A.Stage.model head).own.lines },
-    ghost root_fits: { Within routes.root_handles.bits (B.Stage.model root).own.lines },
+    pub ghost head_fits: { Within routes.head_handles.bits (A.Stage.model head).own.lines },
+    pub ghost root_fits: { Within routes.root_handles.bits (B.Stage.model root).own.lines },
 }
 
 // Whether a stage with these lines can be let to handle the line, if the flag says so.

@@ -39,6 +39,7 @@ pub trait Seat {
 }
 
 // The head kernel.
+#[derive(Clone, Copy, Debug, PartialEq, Eq)]
 pub struct HeadSeat;
 
 impl Seat for HeadSeat {
@@ -50,6 +51,7 @@ impl Seat for HeadSeat {
 }
 
 // The root kernel.
+#[derive(Clone, Copy, Debug, PartialEq, Eq)]
 pub struct RootSeat;
 
 impl Seat for RootSeat {
@@ -60,8 +62,8 @@ impl Seat for RootSeat {
     }
 }
 
-// A refusal at the stage of a kernel.
-#[derive(Drop)]
+// A refusal at the stage of a kernel: as plain a value as the fault that it holds.
+#[derive(Clone, Copy)]
 pub struct At<S> {
     pub fault: Fault,
     seat: PhantomData<S>,

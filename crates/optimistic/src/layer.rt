@@ -17,7 +17,7 @@ pub struct Optimistic<C: Controller> {
     below: C,
     soft: LineSet,
     log: LineSet,
-    ghost logging: { Logging (C.Controller.view below) soft.bits log.bits },
+    pub ghost logging: { Logging (C.Controller.view below) soft.bits log.bits },
 }
 
 impl<C: Controller> Optimistic<C> {

@@ -7,7 +7,7 @@ use Rattle.lines.specs.Sets.{has, union, common, minus, only}
 use Rattle.lines.proofs.Laws.{has_none, has-union, has-common, has-minus, has-only, has_ones, has_small, not_has, ext}
 use Rattle.lines.proofs.Words.{put_byte, out_byte}
 use Rattle.lines.proofs.Blocks.{block_low, block_high}
-use Rattle.pair8259.specs.Chips.{joined}
+use Rattle.pair8259.specs.Chips.{joined, Cascaded}
 
 low : (m s n : ℕ) → n < 8 → has (joined m s) n ≡ (has m n && not (n == 2))
 unfolding joined
@@ -122,7 +122,14 @@ pub joined_none : joined 0 0 ≡ 0
 unfolding joined
 joined_none = ext _ _ (λ k. simp (has-minus, has_none) refl)
 
--- how a line goes in and out, and what the master's bit 2 tells
+-- what the master's bit 2 tells
+pub cascaded_clear : (m s x : ℕ) → s ≡ 0 → x ≡ minus m (only 2) → Cascaded x s
+cascaded_clear m s x z e = let r = ap (λ y. has y 2) e ∙ has-minus m (only 2) 2 in let t = has-only 2 2 in grind (arith, nat_tests)
+
+pub cascaded_set : (m s x : ℕ) → (s ≢ 0) → x ≡ union m (only 2) → Cascaded x s
+cascaded_set m s x z e = let r = ap (λ y. has y 2) e ∙ has-union m (only 2) 2 in let t = has-only 2 2 in grind (arith, nat_tests)
+
+-- how a line goes in and out, and how the bit is made to fit
 pub ruleset bytes = (on_slave, insert_low, insert_high, remove_low, remove_high)
 
 pub ruleset cascade = (joined_set, joined_clear, has-union, has-minus, has-only)

@@ -2,3 +2,4 @@ mod Joining
 mod Looping
 mod Playing
 mod Replaying
+mod Single

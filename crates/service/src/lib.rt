@@ -65,7 +65,7 @@ pub fn serve<C: Controller>(
     requests: &[u8],
 ) -> Result<Report, AllocError>
     ensures fixed { C.Controller.ranks controller.new ≡ C.Controller.ranks controller.old }
-    ensures led { MatchResult result (λ report. Reports (C.Controller.view controller.old) requests.now report.answers.items report.served.items (C.Controller.view controller.new)) (λ _. C.Controller.view controller.new ≡ C.Controller.view controller.old) }
+    ensures led { MatchResult result (λ report. Reports (C.Controller.view controller.old) requests.now report.answers.items report.served.items (C.Controller.view controller.new)) (λ _. controller.new ≡ controller.old) }
 {
     let mut answers = Vec::with_capacity(heap, requests.len())?;
     let mut served = Vec::with_capacity(heap, 64)?;

@@ -10,4 +10,4 @@ mod stepping;
 pub use listing::TraceFault;
 pub use saved::Saved;
 pub use session::{HeadOn, RootOn, Session};
-pub use stepping::{Stepped, step};
+pub use stepping::{Stepped, step, step_running};

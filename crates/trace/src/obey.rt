@@ -14,7 +14,9 @@ use spl::{HeadPolicy, RootPolicy};
 use stage::Stage;
 use trace_lines::Command;
 
-// Makes a call of the machine: its answer is listed.
+// Makes a call of the machine: its answer is listed. It is inlined at each command, whose call is known there and so not matched
+// once more.
+#[inline(always)]
 fn called<H: Controller, A: Stage, B: Stage>(
     machine: &mut Machine<Running, H, A, B>,
     call: Call,

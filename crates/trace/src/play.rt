@@ -2,7 +2,7 @@
 ghost use Rattle.std.specs.Prelude.{◌≡◌, ℕ};
 ghost use Rattle.machine.specs.Whole.{model_of};
 ghost use Rattle.trace.specs.Calls.{SameStacks};
-ghost use Rattle.trace.specs.Lines.{traced_by, Reroutes, SetsUp, PlaysSetup, PlaysCommand, Plays};
+ghost use Rattle.trace.specs.Lines.{traced_by, Reroutes, SetsUp, PlaysSetup, PlaysCommand};
 ghost use Rattle.trace.specs.Sessions.{has_started, session_model};
 ghost use Rattle.trace.specs.Stages.{head_stage, root_stage};
 
@@ -55,7 +55,7 @@ fn set_up<H: Controller, A: Stage, B: Stage>(
 }
 
 // A line before the start.
-fn before_start<H: Controller, A: Stage, B: Stage>(
+pub(crate) fn before_start<H: Controller, A: Stage, B: Stage>(
     machine: Machine<LaidOut, H, A, B>,
     line: &[u8],
 ) -> Played<H, A, B>
@@ -72,7 +72,7 @@ fn before_start<H: Controller, A: Stage, B: Stage>(
 }
 
 // A line after the start.
-fn after_start<H: Controller, C: Controller, D: Controller>(
+pub(crate) fn after_start<H: Controller, C: Controller, D: Controller>(
     machine: &mut Machine<Running, H, HeadOn<C>, RootOn<D>>,
     saved: &mut Saved<'_>,
     line: &[u8],
@@ -82,25 +82,4 @@ fn after_start<H: Controller, C: Controller, D: Controller>(
 {
     let command = read_command(line)?;
     obey(machine, saved, command)
-}
-
-// A line at whichever phase the machine is.
-pub(crate) fn play_line<H: Controller, C: Controller, D: Controller>(
-    session: Session<H, HeadOn<C>, RootOn<D>>,
-    saved: &mut Saved<'_>,
-    line: &[u8],
-) -> Played<H, HeadOn<C>, RootOn<D>>
-    ensures lent { SameStacks saved.old saved.new }
-    ensures plays { Plays (has_started session) (traced_by (session_model H.Controller (head_stage C.Controller) (root_stage D.Controller) session) saved.old) line.now result.result (has_started result.session) (traced_by (session_model H.Controller (head_stage C.Controller) (root_stage D.Controller) result.session) saved.new) }
-{
-    match session {
-        Session::LaidOut(machine) => before_start(machine, line),
-        Session::Running(mut machine) => {
-            let result = after_start(&mut machine, saved, line);
-            Played {
-                session: Session::Running(machine),
-                result,
-            }
-        }
-    }
 }

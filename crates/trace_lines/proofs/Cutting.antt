@@ -1,8 +1,8 @@
 -- The whole lines of a text, and the one that has begun.
-use Rattle.std.proofs.Common.{◌≡◌, ℕ, ◌+◌, ◌<◌, ◌≤◌, true, false, cond, not, eqb, ltb, List, [], ◌∷◌, ◌++◌, length, take, drop, sym, refl, ap, ◌∙◌, subst, ap₂, inl, inr, Some, None, add-one, one-add, arith, length-take}
+use Rattle.std.proofs.Common.{◌≡◌, ℕ, suc, ◌+◌, ◌-◌, ◌<◌, ◌≤◌, true, false, cond, not, eqb, ltb, List, [], ◌∷◌, ◌++◌, length, take, drop, sym, refl, ap, ◌∙◌, subst, ap₂, inl, inr, Some, None, add-one, one-add, arith, length-take}
 use Rattle.std.specs.List.{position, position_or_len}
 use Rattle.std.proofs.lemmas.Bool.{cases_Bool, ltb-true, ltb-false}
-use Rattle.trace_lines.specs.Cut.{before_first, lines_of, onto_first, whole_lines, before_begun, begun, last_line, LinesAre, CutAnywhere, FirstWholeLine, NoWholeLine}
+use Rattle.trace_lines.specs.Cut.{before_first, lines_of, onto_first, whole_lines, before_begun, begun, IsEnd, last_line, LinesAre, CutAnywhere, FirstWholeLine, NoWholeLine}
 use Rattle.trace_lines.proofs.Options.{cond_some, cond_none}
 
 -- ---- the lines are the whole ones and the one that has begun
@@ -75,6 +75,27 @@ unended c s h =
 pub unended_begun : (p : List ℕ) → whole_lines p ≡ [] → begun p ≡ p
 unended_begun [] h = refl
 unended_begun (c ∷ p) h = let (e, f) = unended c p h in more_begun c p e ∙ ap₂ (before_begun c) f (unended_begun p f)
+
+-- what has begun is the end of the text
+end_all : (s : List ℕ) → IsEnd s s
+end_all s = let z : length s - length s ≡ 0 = omega arith in (omega arith, ap (λ n. drop n s) z)
+
+end_more : (c : ℕ) (u s : List ℕ) → IsEnd u s → IsEnd u (c ∷ s)
+end_more c u s (h, e) =
+    let z : length (c ∷ s) - length u ≡ suc (length s - length u) = omega arith in (omega arith, ap (λ n. drop n (c ∷ s)) z ∙ e)
+
+pub begun_end : (s : List ℕ) → IsEnd (begun s) s
+begun_end [] = end_all []
+begun_end (c ∷ s) =
+    let i = begun_end s in
+    elim (cases_Bool (eqb c 10)) [
+      | inl e ↦ subst (λ u. IsEnd u (c ∷ s)) (sym (feed_begun c s e)) (end_more c (begun s) s i)
+      | inr e ↦ subst (λ u. IsEnd u (c ∷ s)) (sym (more_begun c s e)) (still i (whole_lines s) refl)
+    ]
+  where
+    still : IsEnd (begun s) s → (ls : List (List ℕ)) → whole_lines s ≡ ls → IsEnd (before_begun c ls (begun s)) (c ∷ s)
+    still i [] h = subst (λ u. IsEnd (c ∷ u) (c ∷ s)) (sym (unended_begun s h)) (end_all (c ∷ s))
+    still i (l ∷ ls) h = end_more c (begun s) s i
 
 pub unended_more : (p s : List ℕ) → whole_lines p ≡ [] → whole_lines s ≡ [] → whole_lines (p ++ s) ≡ []
 unended_more [] s h k = k

@@ -16,11 +16,14 @@ digit_is b c d e =
     let q : digit_value c ≡ d = cc p.1 in
     (q, subst (λ d. d < b) q (ltb-true (digit_value c) b p.0))
 
-pub grows : (b n d i : ℕ) (s : List ℕ) → n < 16 ^ i → b ≤ 16 → digit_of b (get_or s i 0) ≡ Some d → n * b + d < 16 ^ (i + 1)
-grows b n d i s h k e =
-    let l = (digit_is b (get_or s i 0) d e).1 in
+pub grows : (n b d i : ℕ) → n < 16 ^ i → b ≤ 16 → d < b → n * b + d < 16 ^ (i + 1)
+grows n b d i h k l =
     let p : (n + 1) * b ≤ 16 ^ i * 16 = mul-le-mul {n₁ = n + 1} {m₁ = b} {n₂ = 16 ^ i} {m₂ = 16} (omega arith) k in
-    rw (add-one, pow-suc) (omega (arith, l, p, add-mul n 1 b, one-mul b))
+    rw (add-one, pow-suc) (omega (arith, p, add-mul n 1 b, one-mul b))
+
+-- by the digit that stands next
+pub grows_digit : (b n d i : ℕ) (s : List ℕ) → n < 16 ^ i → b ≤ 16 → digit_of b (get_or s i 0) ≡ Some d → n * b + d < 16 ^ (i + 1)
+grows_digit b n d i s h k e = grows n b d i h k (digit_is b (get_or s i 0) d e).1
 
 pub reads_on : (b n d i : ℕ) (s : List ℕ) → i < length s → digit_of b (get_or s i 0) ≡ Some d
     → number_after b n (drop i s) ≡ number_after b (n * b + d) (drop (i + 1) s)

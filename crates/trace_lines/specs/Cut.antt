@@ -1,5 +1,5 @@
 -- A text cut into lines at its line feeds.
-use Rattle.std.specs.Prelude.{◌≡◌, ℕ, ◌+◌, ◌<◌, cond, List, [], ◌∷◌, ◌++◌, length, drop, ◌==◌}
+use Rattle.std.specs.Prelude.{◌≡◌, ℕ, ◌+◌, ◌-◌, ◌<◌, ◌≤◌, cond, List, [], ◌∷◌, ◌++◌, length, drop, ◌==◌}
 
 -- a byte put before the first of some lines; where there is none, it begins one
 abbrev pub before_first : ℕ → List (List ℕ) → List (List ℕ)
@@ -38,6 +38,10 @@ before_begun c (l ∷ ls) u = u
 abbrev pub begun : List ℕ → List ℕ
 begun [] = []
 begun (c ∷ s) = cond (c == 10) (begun s) (before_begun c (whole_lines s) (begun s))
+
+-- u is the end of the text s: what comes after its first bytes
+abbrev pub IsEnd : List ℕ → List ℕ → Type 0
+IsEnd u s = (length u ≤ length s) × (drop (length s - length u) s ≡ u)
 
 -- what has begun as a last line, if it is not empty
 abbrev pub last_line : List ℕ → List (List ℕ)

@@ -3,10 +3,14 @@ use Rattle.listing.proofs.Puts.{puts_then, puts_front}
 use Rattle.listing.proofs.write.write_line.Goals as goal
 
 pub returns : goal.returns
-returns c =
+returns g c =
     let p = puts_then c.put_words.ensures.puts c.byte.ensures in (
-      omega arith,
-      omega (arith, p.at, c.over-cursor.ensures.start),
-      omega (arith, c.put_words.ensures.within, c.byte.ensures.at, c.over-cursor.ensures.start),
-      puts_front p c.over-cursor.ensures.start c.over-cursor.ensures.bytes c.written.ensures (search rules),
+      c.told-line.result,
+      c.told-line.ensures,
+      (
+        omega arith,
+        omega (arith, p.at, c.over-cursor.ensures.start),
+        omega (arith, c.put_words.ensures.within, c.byte.ensures.at, c.over-cursor.ensures.start),
+        puts_front p c.over-cursor.ensures.start c.over-cursor.ensures.bytes c.written.ensures (search rules),
+      ),
     )
