@@ -1,6 +1,6 @@
 // How calls and replies are printed.
 ghost use Rattle.std.specs.Prelude.{Some};
-ghost use Rattle.calls.specs.Shown.{kernel_words, place_words, reply_words};
+ghost use Rattle.calls.specs.Shown.{kernel_words, place_words, answer_words, reply_words};
 
 use controller::Raised;
 use model::{Answer, Call, Kernel, Place, Question, Reply, StageCall};
@@ -70,6 +70,8 @@ impl fmt::Display for Shown<Call> {
 }
 
 impl fmt::Display for Shown<Answer> {
+    ghost output = { λ s. answer_words s.0 };
+
     fn fmt<W: fmt::Write>(&self, f: &mut fmt::Formatter<W>) -> fmt::Result {
         match self.0 {
             Answer::Raised(Raised::New) => f.write_str("new"),

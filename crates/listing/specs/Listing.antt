@@ -74,26 +74,26 @@ words_of (Err r) = refusal r.number (listed_letter r.place)
 abbrev pub line_of : Result Listed Refusal → List ℕ
 line_of r = words_of r ++ (10 ∷ [])
 
--- a refusal is listed as what it converts to
-abbrev pub As : {F : Type 0} → (F → Refusal → Type 0) → Result Listed F → Result Listed Refusal → Type 0
-As converts (Ok a) l = l ≡ Ok a
-As converts (Err e) l = (r : Refusal) × converts e r × (l ≡ Err r)
+-- an obeyed line is listed as it is, and a refusal as one that it converts to
+abbrev pub ListedAs : {F : Type 0} → (F → Refusal → Type 0) → Result Listed F → Result Listed Refusal → Type 0
+ListedAs converts (Ok a) l = l ≡ Ok a
+ListedAs converts (Err e) l = (r : Refusal) × converts e r × (l ≡ Err r)
 
 -- of a refusal of a trace
 abbrev pub refusal_text : TraceFault → List ℕ
 refusal_text e = words_of (Err (refusal_of e))
 
 -- what a line of a trace came to, as it is listed
-abbrev pub told : Result Listed TraceFault → Result Listed Refusal
-told (Ok a) = Ok a
-told (Err e) = Err (refusal_of e)
+abbrev pub as_listed : Result Listed TraceFault → Result Listed Refusal
+as_listed (Ok a) = Ok a
+as_listed (Err e) = Err (refusal_of e)
 
 -- its words, and its line
 abbrev pub words : Result Listed TraceFault → List ℕ
-words r = words_of (told r)
+words r = words_of (as_listed r)
 
 abbrev pub line : Result Listed TraceFault → List ℕ
-line r = line_of (told r)
+line r = line_of (as_listed r)
 
 -- ---- the buffer
 
@@ -117,13 +117,17 @@ room_of (Ok (Restored code)) = 20
 room_of (Err r) = 20
 
 abbrev pub room : Result Listed TraceFault → ℕ
-room r = room_of (told r)
+room r = room_of (as_listed r)
 
 -- A line written at the start of a buffer: the answer counts its bytes, and those past it stay. A buffer without the room is refused and stays.
 abbrev pub WritesLine : Result Listed Refusal → List ℕ → Result ℕ ShortBuffer → List ℕ → Type 0
 WritesLine a xs (Ok n) ys = (room_of a ≤ length xs) × (n ≡ length (line_of a)) × (n ≤ room_of a) × (ys ≡ line_of a ++ drop n xs)
 WritesLine a xs (Err e) ys = (length xs < room_of a) × (ys ≡ xs)
 
--- the same of what a line of a trace came to
+-- the same of a line whose refusal is one that converts
+abbrev pub WritesAs : {F : Type 0} → (F → Refusal → Type 0) → Result Listed F → List ℕ → Result ℕ ShortBuffer → List ℕ → Type 0
+WritesAs converts a xs w ys = (l : Result Listed Refusal) × ListedAs converts a l × WritesLine l xs w ys
+
+-- and of what a line of a trace came to
 abbrev pub Writes : Result Listed TraceFault → List ℕ → Result ℕ ShortBuffer → List ℕ → Type 0
-Writes r xs w ys = WritesLine (told r) xs w ys
+Writes r xs w ys = WritesLine (as_listed r) xs w ys

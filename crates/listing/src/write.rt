@@ -1,9 +1,7 @@
 // A line of a listing.
-ghost use Rattle.std.specs.Prelude.{◌≡◌, Ok, Result, ℕ, ◌+◌, ◌<◌, ◌≤◌, length};
+ghost use Rattle.std.specs.Prelude.{◌≡◌, Ok, ℕ, ◌+◌, ◌<◌, ◌≤◌, length};
 ghost use Rattle.listing.specs.Cursors.{Puts};
-ghost use Rattle.listing.specs.declared.listed.Listed.{Listed as what_is_listed};
-ghost use Rattle.listing.specs.declared.listed.Refusal.{Refusal as refusal_listed};
-ghost use Rattle.listing.specs.Listing.{place_letter, listed_letter, refusal, answer_text, text, words_of, answer_room, room_of, As, WritesLine};
+ghost use Rattle.listing.specs.Listing.{place_letter, listed_letter, refusal, answer_text, text, words_of, answer_room, room_of, ListedAs, WritesAs};
 
 use crate::cursor::Cursor;
 use crate::{Listed, ListedPlace, Refusal, ShortBuffer};
@@ -111,8 +109,8 @@ fn needed(line: Result<Listed, Refusal>) -> usize
 }
 
 // The line with its refusal as it is listed.
-fn told<F: Into<Refusal>>(line: Result<Listed, F>) -> Result<Listed, Refusal>
-    ensures { As F.Into.converts line result }
+fn as_listed<F: Into<Refusal>>(line: Result<Listed, F>) -> Result<Listed, Refusal>
+    ensures { ListedAs F.Into.converts line result }
 {
     match line {
         Ok(listed) => Ok(listed),
@@ -126,9 +124,9 @@ pub fn write_line<F: Into<Refusal>>(
     out: &mut [u8],
     line: Result<Listed, F>,
 ) -> Result<usize, ShortBuffer>
-    ensures { (l : Result what_is_listed refusal_listed) × As F.Into.converts line l × WritesLine l out.old result out.new }
+    ensures { WritesAs F.Into.converts line out.old result out.new }
 {
-    let line = told(line);
+    let line = as_listed(line);
     if out.len() < needed(line) {
         return Err(ShortBuffer);
     }

@@ -62,8 +62,8 @@ impl Seat for RootSeat {
     }
 }
 
-// A refusal at the stage of a kernel: as plain a value as the fault that it holds.
-#[derive(Clone, Copy)]
+// A refusal at the stage of a kernel: as plain a value as the fault that it holds, whatever type names the kernel.
+#[derive_where(Clone, Copy)]
 pub struct At<S> {
     pub fault: Fault,
     seat: PhantomData<S>,

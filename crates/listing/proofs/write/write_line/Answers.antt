@@ -5,8 +5,8 @@ use Rattle.listing.proofs.write.write_line.Goals as goal
 pub returns : goal.returns
 returns g c =
     let p = puts_then c.put_words.ensures.puts c.byte.ensures in (
-      c.told-line.result,
-      c.told-line.ensures,
+      c.as_listed-line.result,
+      c.as_listed-line.ensures,
       (
         omega arith,
         omega (arith, p.at, c.over-cursor.ensures.start),

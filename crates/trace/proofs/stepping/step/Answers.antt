@@ -1,7 +1,7 @@
 use Rattle.std.proofs.Common.{false, true, length, sym, refl, subst}
 use Rattle.std.proofs.lemmas.Bool.{ltb-false}
 use Rattle.machine.specs.Whole.{model_of}
-use Rattle.listing.proofs.Told.{writes_told}
+use Rattle.listing.proofs.Written.{writes_trace}
 use Rattle.trace.specs.Lines.{traced_by, Steps}
 use Rattle.trace.specs.Sessions.{has_started, session_model}
 use Rattle.trace.specs.Stages.{head_stage, root_stage}
@@ -21,7 +21,7 @@ returns-else-is_short g c =
       steps =
           subst (λ s. Steps (has_started s) (traced_by (session_model h a b s) x) c.args.line.now c.args.out.now w.result (has_started p.session) (traced_by (session_model h a b p.session) x) w.new.out) (sym c.in-LaidOut.is)
           (steps false (has_started p.session) (traced_by (model_of h a b c.in-LaidOut.machine) x) (traced_by (session_model h a b p.session) x) c.args.line.now c.args.out.now w.new.out p.result w.result
-          (ltb-false (length c.args.out.now) 20 (sym c.if-is_short.ensures)) (c.before_start-session.ensures, refl, refl) (writes_told p.result c.args.out.now w.new.out w.result w.ensures));
+          (ltb-false (length c.args.out.now) 20 (sym c.if-is_short.ensures)) (c.before_start-session.ensures, refl, refl) (writes_trace p.result c.args.out.now w.new.out w.result w.ensures));
     }
 
 pub returns-in-Running : goal.returns-in-Running

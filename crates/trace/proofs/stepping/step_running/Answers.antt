@@ -1,7 +1,7 @@
 use Rattle.std.proofs.Common.{true, length, sym, refl}
 use Rattle.std.proofs.lemmas.Bool.{ltb-false}
 use Rattle.machine.specs.Whole.{model_of}
-use Rattle.listing.proofs.Told.{writes_told}
+use Rattle.listing.proofs.Written.{writes_trace}
 use Rattle.trace.specs.Lines.{traced_by}
 use Rattle.trace.specs.Stages.{head_stage, root_stage}
 use Rattle.trace.proofs.Rooms.{steps}
@@ -19,5 +19,5 @@ returns g c =
       lent = c.after_start-result.ensures.lent;
       steps =
           steps true true s s' c.args.line.now c.args.out.now c.write_line.new.out r c.write_line.result (ltb-false (length c.args.out.now) 20 (sym c.if-is_short.ensures))
-          (refl, c.after_start-result.ensures.plays) (writes_told r c.args.out.now c.write_line.new.out c.write_line.result c.write_line.ensures);
+          (refl, c.after_start-result.ensures.plays) (writes_trace r c.args.out.now c.write_line.new.out c.write_line.result c.write_line.ensures);
     }
